@@ -1,0 +1,82 @@
+-- Two answers that meet a promise are equal, and wrong programs that no promise admits. Assumes nothing.
+use Prim.Native.Nat.{ℕ}
+use native.Mathlib.Omega.{arith}
+use mathlib.Core.Path.{_≡_, refl, sym, ap, _∙_}
+use mathlib.Core.Bool.{Bool, true, false}
+use mathlib.Core.List.{List, [], _∷_}
+use Rattle.refusal.proofs.Unique.{agree}
+use Rattle.refusal.specs.declared.Refusal.{Refusal}
+use Rattle.refusal.specs.declared.Verdict.the-variants.{Accepted, Refused}
+use Rattle.plan.specs.declared.Buffer.{Buffer}
+use Rattle.plan.specs.declared.Record.{Record}
+use Rattle.plan.specs.declared.Planned.{Planned}
+use Rattle.plan.specs.declared.Counted.{Counted}
+use Rattle.plan.specs.declared.Located.{Located}
+use Rattle.plan.specs.declared.Scaled.{Scaled}
+use Rattle.plan.specs.Lists.{isRadix, product, firstThat, firstBad, indexOf, firstOver, countOf}
+use Rattle.plan.specs.Half.{halving, halved, half}
+use Rattle.plan.specs.Merging.{tally, applies, firstRule, rulesUpTo, rules, letters, marked}
+use Rattle.plan.specs.Record.{planVerdict, recordOf, refusedPlan, acceptedPlan, planned, Plans, Accepts}
+use Rattle.plan.specs.Counts.{NumbersBuffer, CountsStage, CountsEnd, Locates}
+use Rattle.plan.specs.Scaling.{Scales}
+
+pub Plans-one : {list : List ℕ} {r s : Planned} → Plans list r → Plans list s → r ≡ s
+Plans-one p q = agree (p .answer) (q .answer)
+
+pub Accepts-one : {p : Record} {r s : Bool} → Accepts p r → Accepts p s → r ≡ s
+Accepts-one {p} {r} {s} a b = go r s (λ e. b .answer .1 (a .answer .0 e)) (λ e. a .answer .1 (b .answer .0 e))
+  where
+    go : (r s : Bool) → (r ≡ true → s ≡ true) → (s ≡ true → r ≡ true) → r ≡ s
+    go true s f g = sym (f refl)
+    go false true f g = g refl
+    go false false f g = refl
+
+pub NumbersBuffer-one : {b : Buffer} {r s : ℕ} → NumbersBuffer b r → NumbersBuffer b s → r ≡ s
+NumbersBuffer-one p q = agree (p .answer) (q .answer)
+
+pub CountsStage-one : {p : Record} {r s : Counted} → CountsStage p r → CountsStage p s → r ≡ s
+CountsStage-one p q = agree (p .answer) (q .answer)
+
+pub CountsEnd-one : {p : Record} {r s : Counted} → CountsEnd p r → CountsEnd p s → r ≡ s
+CountsEnd-one p q = agree (p .answer) (q .answer)
+
+pub Locates-one : {p : Record} {r s : Located} → Locates p r → Locates p s → r ≡ s
+Locates-one p q = agree (p .answer) (q .answer)
+
+pub Scales-one : {ins outs : List ℕ} {r s : Scaled} → Scales ins outs r → Scales ins outs s → r ≡ s
+Scales-one p q = agree (p .answer) (q .answer)
+
+-- ---- wrong programs
+
+-- a length of 2 and one of 4 are planned, and differ
+two-planned : planned (2 ∷ []) .verdict ≡ Accepted
+unfolding planned planVerdict firstBad firstThat isRadix firstOver product acceptedPlan
+two-planned = refl
+
+two-length : planned (2 ∷ []) .plan .n ≡ 2
+unfolding planned planVerdict firstBad firstThat isRadix firstOver product acceptedPlan recordOf
+two-length = refl
+
+four-length : planned (4 ∷ []) .plan .n ≡ 4
+unfolding planned planVerdict firstBad firstThat isRadix firstOver product acceptedPlan recordOf
+four-length = refl
+
+-- a planner that refuses every list does not meet the promise
+pub refuses-all : (why : List ℕ → Refusal) → ((xs : List ℕ) → Plans xs (refusedPlan (why xs))) → ⊥
+unfolding refusedPlan
+refuses-all why p =
+    let e : Refused (why (2 ∷ [])) ≡ Accepted = ap (λ (r : Planned). r .verdict) (p (2 ∷ []) .answer) ∙ two-planned in
+    let z : _≡_ {A = ℕ} 0 1 = cc in
+    omega arith
+
+-- nor does one that gives the same plan for every list
+pub one-plan : (r : Planned) → ((xs : List ℕ) → Plans xs r) → ⊥
+one-plan r p =
+    let e : r .plan .n ≡ 2 = ap (λ (x : Planned). x .plan .n) (p (2 ∷ []) .answer) ∙ two-length in
+    let f : r .plan .n ≡ 4 = ap (λ (x : Planned). x .plan .n) (p (4 ∷ []) .answer) ∙ four-length in
+    omega arith
+
+-- [2, 2, 3] is halved first, so that nothing is left to merge
+pub halved-first : planned (2 ∷ 2 ∷ 3 ∷ []) .merges .count ≡ 0
+unfolding planned planVerdict firstBad firstThat isRadix firstOver product acceptedPlan marked letters rules rulesUpTo firstRule applies tally countOf half halving halved indexOf
+halved-first = refl

@@ -1,0 +1,55 @@
+-- `plan::inner::lists::index_of` meets its contract. Assumes nothing.
+use mathlib.Core.Path.{sym}
+use borrow.Author.Tests.{eq-eqb, ne-eqb}
+use Rattle.plan.proofs.Lists.{first-skip, first-here, first-none}
+use borrow.Author.Needs.{needs}
+use Prim.Native.Nat.{ℕ, _+_, _-_, _≤_}
+use mathlib.Core.Path.{_≡_}
+use lib.Dec.{eqb}
+use lib.ListN.{length, drop}
+use Rattle.plan.specs.Lists.{firstThat, indexOf}
+use Rattle.plan.proofs.inner.lists.index_of.Statement.{statement}
+use Rattle.plan.proofs.inner.lists.index_of.Tie as tie
+
+abbrev Inv-loop : tie.InvT-loop
+Inv-loop list v i₀ i = (i ≤ length list) × (firstThat (λ (b : ℕ). eqb b v) list ≡ i + firstThat (λ (b : ℕ). eqb b v) (drop i list))
+
+abbrev μ-loop : tie.MeasureT-loop
+μ-loop list v i₀ i = length list - i
+
+loop-holds : tie.Need-loop-holds Inv-loop μ-loop
+loop-holds c = search needs
+
+shared-slice-read-if2 : tie.Need-shared-slice-read-if2 Inv-loop μ-loop
+shared-slice-read-if2 c = search needs
+
+add-i : tie.Need-add-i Inv-loop μ-loop
+add-i c = search needs
+
+loop-less : tie.Need-loop-less Inv-loop μ-loop
+loop-less c = search needs
+
+loop-again : tie.Need-loop-again Inv-loop μ-loop
+loop-again c = (search needs, first-skip (λ (b : ℕ). eqb b (c .before .before .before .before .args .v)) (c .before .before .before .before .args .list .now) (c .before .before .before .loop .i) (search needs) (ne-eqb _ _ (c .if2 .left)) (c .before .before .before .loop .inv .1))
+
+returns : tie.Need-returns Inv-loop μ-loop
+unfolding indexOf
+returns c = sym (first-none (λ (b : ℕ). eqb b (c .before .before .args .v)) (c .before .before .args .list .now) (c .before .loop .i) (search needs) (search needs) (c .before .loop .inv .1))
+
+returns-2 : tie.Need-returns-2 Inv-loop μ-loop
+unfolding indexOf
+returns-2 c = sym (first-here (λ (b : ℕ). eqb b (c .before .before .before .before .args .v)) (c .before .before .before .before .args .list .now) (c .before .before .before .loop .i) (search needs) (eq-eqb _ _ (c .if2 .taken)) (c .before .before .before .loop .inv .1))
+
+pub index-of-spec : {M : Type 1} → statement M
+index-of-spec =
+    tie.close
+    (tie.spec
+    Inv-loop
+    μ-loop
+    loop-holds
+    shared-slice-read-if2
+    add-i
+    loop-less
+    loop-again
+    returns
+    returns-2)

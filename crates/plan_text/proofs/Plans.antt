@@ -1,0 +1,76 @@
+-- What the report takes from planning. Assumes nothing.
+use Prim.Native.Nat.{ℕ, min, _≤_}
+use native.Mathlib.Decide.{decLe}
+use native.Mathlib.Omega.{arith}
+use mathlib.Core.Logic.{dite}
+use mathlib.Core.Path.{_≡_, refl, sym, ap, _∙_}
+use mathlib.Core.Bool.{Bool, true, false, not, _&&_}
+use mathlib.Core.List.{List, [], _∷_}
+use lib.ListN.{length, take}
+use lib.Seq.{take-length, take-all}
+use Rattle.refusal.specs.Refusal.{_⇒_, verdict}
+use Rattle.refusal.specs.declared.Refusal.the-variants.{NotPlanned}
+use Rattle.refusal.specs.declared.Verdict.{Verdict}
+use Rattle.refusal.specs.declared.Verdict.the-variants.{Accepted, Refused}
+use Rattle.plan.specs.Record.{planVerdict, planned, plannedBy, acceptedPlan, refusedPlan, inOrder, sized, isPlanned}
+use Rattle.plan.specs.Counts.{recordVerdict, counted, located}
+use Rattle.plan.specs.declared.Record.{Record}
+use Rattle.plan.specs.declared.Buffer.{Buffer}
+use Rattle.plan.specs.declared.Counted.{Counted}
+use Rattle.plan.specs.declared.Located.{Located}
+use Rattle.plan.specs.declared.Planned.{Planned}
+use Rattle.plan.proofs.Records.{accepted-good, in-order, planned-passes}
+use Rattle.plan_text.specs.Tokens.{radices, firstRead}
+use Rattle.plan_text.specs.Report.{linesOf, reportOf, textOf, Reports}
+use Rattle.plan_text.specs.Growing.{Holds}
+use Rattle.plan_text.specs.declared.Text.{Text}
+
+-- the first of two tests that both hold
+first-holds : (a b : Bool) → (a && b) ≡ true → a ≡ true
+first-holds true b e = refl
+first-holds false b e = e
+
+-- a plan has at most 13 radices
+pub planned-count : (p : Record) → isPlanned p ≡ true → p .count ≤ 13
+unfolding isPlanned
+planned-count p e = in-order (p .count) (p .radices) (first-holds (inOrder (p .count) (p .radices)) (sized p) e) .few
+
+-- a plan is not refused
+accepted : (p : Record) → isPlanned p ≡ true → recordVerdict p ≡ Accepted
+unfolding recordVerdict
+accepted p e = ap (λ (x : Bool). verdict (not x ⇒ NotPlanned 0 ∷ [])) e
+
+-- what is counted of it
+pub count-of : (p : Record) (r : Counted) (k : ℕ) → isPlanned p ≡ true → r ≡ counted (recordVerdict p) k → r .count ≡ k
+count-of p r k e q = ap (λ (x : Counted). x .count) q ∙ ap (λ (v : Verdict). counted v k .count) (accepted p e)
+
+-- where its result is
+pub buffer-of : (p : Record) (r : Located) (b : Buffer) → isPlanned p ≡ true → r ≡ located (recordVerdict p) b → r .buffer ≡ b
+buffer-of p r b e q = ap (λ (x : Located). x .buffer) q ∙ ap (λ (v : Verdict). located v b .buffer) (accepted p e)
+
+-- an accepted answer of planning holds a plan
+pub planned-ok : (xs : List ℕ) (r : Planned) → r ≡ planned xs → r .verdict ≡ Accepted → isPlanned (r .plan) ≡ true
+unfolding planned acceptedPlan refusedPlan
+planned-ok xs r e v =
+    let ok : planVerdict xs ≡ Accepted = sym (verdict-of (planVerdict xs)) ∙ sym (ap (λ (a : Planned). a .verdict) e) ∙ v in
+    ap (λ (a : Planned). isPlanned (a .plan)) e ∙ ap (λ (w : Verdict). isPlanned (plannedBy w xs .plan)) ok ∙ planned-passes xs (accepted-good xs ok)
+  where
+    verdict-of : (v : Verdict) → plannedBy v xs .verdict ≡ v
+    verdict-of Accepted = refl
+    verdict-of (Refused why) = refl
+
+-- no more than there is
+pub take-least : (n : ℕ) (xs : List ℕ) → take (min (length xs) n) xs ≡ take n xs
+take-least n xs =
+    dite (decLe (length xs) n)
+    (λ (h : length xs ≤ n).
+    let e : min (length xs) n ≡ length xs = omega arith in
+    ap (λ (k : ℕ). take k xs) e ∙ take-length xs ∙ sym (take-all n xs h))
+    (λ (h : length xs ≤ n → ⊥).
+    let e : min (length xs) n ≡ n = omega arith in
+    ap (λ (k : ℕ). take k xs) e)
+
+-- the text of the report's bytes
+pub reported : {xs : List ℕ} {r : Text} {input : List ℕ} → xs ≡ linesOf (planned (radices (firstRead input))) → Holds xs r → Reports input r
+unfolding reportOf
+reported {xs} {r} {input} e h = record { answer = h .text ∙ ap textOf e; fits = omega (arith, h .fits, ap length e) }

@@ -1,0 +1,123 @@
+-- `plan_lines` adds the seven lines in turn; they fit. Assumes nothing.
+use borrow.Author.Needs.{needs}
+use Prim.Native.Nat.{ℕ}
+use native.Mathlib.Omega.{arith}
+use mathlib.Core.Path.{ap, _∙_}
+use mathlib.Core.List.{List, [], _∷_, _++_}
+use lib.Dec.{lit≤}
+use lib.ListN.{take}
+use Rattle.plan.specs.Counts.{twiddleStart, endCount, resultIn}
+use Rattle.plan.specs.declared.Buffer.{Buffer}
+use Rattle.plan_text.specs.Lines.{decimal, line}
+use Rattle.plan_text.specs.Report.{factorWords, bufferName, planLines}
+use Rattle.plan_text.proofs.Growing.{then, said, holds}
+use Rattle.plan_text.proofs.Plans.{planned-count, count-of, buffer-of}
+use Rattle.plan_text.proofs.inner.lines.plan_lines.Statement.{statement}
+use Rattle.plan_text.proofs.inner.lines.plan_lines.Tie as tie
+
+empty-requires : tie.Need-empty-requires
+empty-requires c κs = search needs
+
+slice-aggregate-number-line : tie.Need-slice-aggregate-number-line
+slice-aggregate-number-line c = search needs
+
+number-line-requires : tie.Need-number-line-requires
+number-line-requires c κs = omega arith
+
+slice-aggregate-number-line-2 : tie.Need-slice-aggregate-number-line-2
+slice-aggregate-number-line-2 c = search needs
+
+number-line-requires-2 : tie.Need-number-line-requires-2
+number-line-requires-2 c κs = omega arith
+
+factors-line-requires : tie.Need-factors-line-requires
+factors-line-requires c κs = (
+  planned-count (c .before .before .before .before .before .before .args .plan) (c .before .before .before .before .before .before .pre),
+  omega arith,
+)
+
+slice-aggregate-number-line-3 : tie.Need-slice-aggregate-number-line-3
+slice-aggregate-number-line-3 c = search needs
+
+number-line-requires-3 : tie.Need-number-line-requires-3
+number-line-requires-3 c κs = omega arith
+
+slice-aggregate-number-line-4 : tie.Need-slice-aggregate-number-line-4
+slice-aggregate-number-line-4 c = search needs
+
+stage-twiddles-requires : tie.Need-stage-twiddles-requires
+stage-twiddles-requires c κs = search needs
+
+number-line-requires-4 : tie.Need-number-line-requires-4
+number-line-requires-4 c κs = omega arith
+
+slice-aggregate-number-line-5 : tie.Need-slice-aggregate-number-line-5
+slice-aggregate-number-line-5 c = search needs
+
+end-twiddles-requires : tie.Need-end-twiddles-requires
+end-twiddles-requires c κs = search needs
+
+number-line-requires-5 : tie.Need-number-line-requires-5
+number-line-requires-5 c κs = omega (arith, c .before .before .before .before .before .before .before .before .before)
+
+result-requires : tie.Need-result-requires
+result-requires c κs = search needs
+
+result-line-requires : tie.Need-result-line-requires
+result-line-requires c κs = omega (arith, c .before .before .before .before .before .before .before .before .before)
+
+returns : tie.Need-returns
+unfolding planLines
+returns c =
+    let end = c .before .before in
+    let stage = end .before .before .before in
+    let merges = stage .before .before .before in
+    let factors = merges .before .before in
+    let half = factors .before .before in
+    let n = half .before .before in
+    let start = n .before .before .before in
+    let p = start .args .plan in
+    let m = start .args .merges in
+    let stages = twiddleStart (p .half) (p .radices) (p .count) in
+    let ends = endCount (p .n) in
+    let staged = stage .before .stage-twiddles in
+    let ended = end .before .end-twiddles in
+    let located = c .before .result in
+    let lines : ℕ → ℕ → Buffer → List ℕ = λ s e b.
+    line "n" (decimal (p .n) ∷ [])
+    ++ (line "half" (decimal (p .half) ∷ [])
+    ++ (line "factors" (factorWords (take (p .count) (p .radices)))
+    ++ (line "merges" (decimal (m .count) ∷ [])
+    ++ (line "stage" (decimal s ∷ [])
+    ++ (line "end" (decimal e ∷ [])
+    ++ line "result" (bufferName b ∷ [])))))) in
+    holds {k = 207} (n .before .before .empty .ensures) (lit≤ tt)
+    (said
+    (ap (λ (s : ℕ). lines s (ended .result .count) (located .result .buffer)) (count-of p (staged .result) stages (start .pre) (staged .ensures .answer))
+    ∙ ap (λ (e : ℕ). lines stages e (located .result .buffer)) (count-of p (ended .result) ends (start .pre) (ended .ensures .answer))
+    ∙ ap (λ (b : Buffer). lines stages ends b) (buffer-of p (located .result) (resultIn (p .count)) (start .pre) (located .ensures .answer)))
+    (lit≤ tt)
+    (then (n .number-line .ensures) (then (half .number-line2 .ensures) (then (factors .factors-line .ensures) (then (merges .number-line3 .ensures)
+    (then (stage .number-line4 .ensures) (then (end .number-line5 .ensures) (c .result-line .ensures))))))))
+
+pub plan-lines-spec : {M : Type 1} → statement M
+plan-lines-spec =
+    tie.close
+    (tie.spec
+    empty-requires
+    slice-aggregate-number-line
+    number-line-requires
+    slice-aggregate-number-line-2
+    number-line-requires-2
+    factors-line-requires
+    slice-aggregate-number-line-3
+    number-line-requires-3
+    slice-aggregate-number-line-4
+    stage-twiddles-requires
+    number-line-requires-4
+    slice-aggregate-number-line-5
+    end-twiddles-requires
+    number-line-requires-5
+    result-requires
+    result-line-requires
+    returns)

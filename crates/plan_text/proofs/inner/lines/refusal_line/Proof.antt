@@ -1,0 +1,68 @@
+-- `refusal_line` adds the name, the number, the place and the line end; they fit. Assumes nothing.
+use borrow.Author.Needs.{needs}
+use Prim.Native.Nat.{ℕ}
+use native.Mathlib.Omega.{arith}
+use mathlib.Core.Path.{ap, _∙_}
+use mathlib.Core.List.{List, [], _∷_, _++_}
+use lib.Dec.{lit≤}
+use Rattle.refusal.specs.Refusal.{numberOf}
+use Rattle.plan_text.specs.Lines.{ascii, decimal, line}
+use Rattle.plan_text.specs.Report.{refusalLine}
+use Rattle.plan_text.proofs.Growing.{then, said, holds, two-words}
+use Rattle.plan_text.proofs.inner.lines.refusal_line.Statement.{statement}
+use Rattle.plan_text.proofs.inner.lines.refusal_line.Tie as tie
+
+empty-requires : tie.Need-empty-requires
+empty-requires c κs = search needs
+
+slice-aggregate-with-bytes : tie.Need-slice-aggregate-with-bytes
+slice-aggregate-with-bytes c = search needs
+
+with-bytes-requires : tie.Need-with-bytes-requires
+with-bytes-requires c κs = omega arith
+
+number-requires : tie.Need-number-requires
+number-requires c κs = search needs
+
+cast-with-number : tie.Need-cast-with-number
+cast-with-number c = search needs
+
+with-number-requires : tie.Need-with-number-requires
+with-number-requires c κs = omega arith
+
+place-requires : tie.Need-place-requires
+place-requires c κs = search needs
+
+with-number-requires-2 : tie.Need-with-number-requires-2
+with-number-requires-2 c κs = omega arith
+
+with-byte-requires : tie.Need-with-byte-requires
+with-byte-requires c κs = omega arith
+
+returns : tie.Need-returns
+unfolding refusalLine
+returns c =
+    let n = c .before .before .before .before .number in
+    let p = c .before .before .place in
+    holds {k = 50} (c .before .before .before .before .before .before .before .empty .ensures) (lit≤ tt)
+    (said
+    (ap (λ (l : List ℕ). ascii "refused" ++ l) (two-words (decimal (n .result)) (decimal (p .result)) (10 ∷ []))
+    ∙ ap (λ (k : ℕ). line "refused" (decimal k ∷ (decimal (p .result) ∷ []))) (n .ensures .answer)
+    ∙ ap (λ (k : ℕ). line "refused" (decimal (numberOf (c .before .before .before .before .before .before .before .before .args .why)) ∷ (decimal k ∷ []))) (p .ensures .answer))
+    (lit≤ tt)
+    (then (c .before .before .before .before .before .with-bytes .ensures) (then (c .before .before .before .with-number .ensures) (then (c .before .with-number2 .ensures) (c .with-byte .ensures)))))
+
+pub refusal-line-spec : {M : Type 1} → statement M
+refusal-line-spec =
+    tie.close
+    (tie.spec
+    empty-requires
+    slice-aggregate-with-bytes
+    with-bytes-requires
+    number-requires
+    cast-with-number
+    with-number-requires
+    place-requires
+    with-number-requires-2
+    with-byte-requires
+    returns)

@@ -1,0 +1,59 @@
+-- `with_bytes` adds the bytes in turn. The invariant: the text so far with the bytes that are left is the text wanted. Assumes nothing.
+use Prim.Native.Nat.{_≤_, _+_, _-_}
+use native.Mathlib.Omega.{arith}
+use borrow.Author.Needs.{needs}
+use mathlib.Core.Path.{_≡_, sym, ap, _∙_}
+use lib.ListN.{length, drop, drop-of-length-le}
+use Rattle.plan_text.specs.Growing.{puts}
+use Rattle.plan_text.specs.declared.Text.{Text}
+use Rattle.plan_text.proofs.Growing.{puts-next}
+use Rattle.plan_text.proofs.inner.text.with_bytes.Statement.{statement}
+use Rattle.plan_text.proofs.inner.text.with_bytes.Tie as tie
+
+abbrev Inv-loop : tie.InvT-loop
+Inv-loop s text₀ i₀ text i = (i ≤ length s) × ((text .len ≤ text₀ .len + i) × (puts text (drop i s) ≡ puts text₀ s))
+
+abbrev μ-loop : tie.MeasureT-loop
+μ-loop s text₀ i₀ text i = length s - i
+
+loop-holds : tie.Need-loop-holds Inv-loop μ-loop
+loop-holds c = search needs
+
+shared-slice-read-with-byte : tie.Need-shared-slice-read-with-byte Inv-loop μ-loop
+shared-slice-read-with-byte c = search needs
+
+with-byte-requires : tie.Need-with-byte-requires Inv-loop μ-loop
+with-byte-requires c κs = omega arith
+
+add-i : tie.Need-add-i Inv-loop μ-loop
+add-i c = search needs
+
+loop-less : tie.Need-loop-less Inv-loop μ-loop
+loop-less c = search needs
+
+loop-again : tie.Need-loop-again Inv-loop μ-loop
+loop-again c =
+    let l = c .before .before .before .loop in
+    let s = c .before .before .before .before .before .args .s .now in
+    let e = c .with-byte .ensures .text in
+    (search needs, (search needs, ap (λ (t : Text). puts t (drop (l .i + 1) s)) e ∙ sym (puts-next (l .text) s (l .i) (search needs)) ∙ l .inv .1 .1))
+
+returns : tie.Need-returns Inv-loop μ-loop
+returns c =
+    let l = c .before .loop in
+    let s = c .before .before .before .args .s .now in
+    record { text = sym (ap (puts (l .text)) (drop-of-length-le s {i = l .i} (search needs))) ∙ l .inv .1 .1; short = omega arith }
+
+pub with-bytes-spec : {M : Type 1} → statement M
+with-bytes-spec =
+    tie.close
+    (tie.spec
+    Inv-loop
+    μ-loop
+    loop-holds
+    shared-slice-read-with-byte
+    with-byte-requires
+    add-i
+    loop-less
+    loop-again
+    returns)

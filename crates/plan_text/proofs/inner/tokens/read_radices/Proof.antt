@@ -1,0 +1,83 @@
+-- `read_radices` reads the radices of a text. The invariant: what has been read and what is left give them. Assumes nothing.
+use Prim.Native.Nat.{_≤_, _+_, _-_}
+use native.Mathlib.Omega.{arith}
+use borrow.Author.Needs.{needs}
+use mathlib.Core.Path.{_≡_, refl, sym, ap, _∙_}
+use lib.ListN.{length, getD, take, drop, drop-of-length-le}
+use Rattle.plan_text.specs.Tokens.{radices}
+use Rattle.plan_text.specs.Reading.{room}
+use Rattle.plan_text.specs.declared.inner.tokens.Reading.{Reading}
+use Rattle.plan_text.proofs.Reading.{gives, gives-start, gives-next, gives-end, step-length, step-room, ended-fits}
+use Rattle.plan_text.proofs.inner.tokens.read_radices.Statement.{statement}
+use Rattle.plan_text.proofs.inner.tokens.read_radices.Tie as tie
+
+abbrev Inv-loop : tie.InvT-loop
+Inv-loop text s₀ i₀ s i = (i ≤ length text) × ((room s ≤ i) × ((length (s .list) ≡ 2048) × (gives s (drop i text) ≡ radices text)))
+
+abbrev μ-loop : tie.MeasureT-loop
+μ-loop text s₀ i₀ s i = length text - i
+
+loop-holds : tie.Need-loop-holds Inv-loop μ-loop
+loop-holds c = (search needs, (search needs, (search needs, gives-start _ _ refl refl)))
+
+shared-slice-read-step : tie.Need-shared-slice-read-step Inv-loop μ-loop
+shared-slice-read-step c = search needs
+
+step-requires : tie.Need-step-requires Inv-loop μ-loop
+step-requires c κs = omega arith
+
+add-i : tie.Need-add-i Inv-loop μ-loop
+add-i c = search needs
+
+loop-less : tie.Need-loop-less Inv-loop μ-loop
+loop-less c = search needs
+
+loop-again : tie.Need-loop-again Inv-loop μ-loop
+loop-again c =
+    let l = c .before .before .before .loop in
+    let text = c .before .before .before .before .before .args .text .now in
+    let b = getD text (l .i) 0 in
+    let e = c .step .ensures in
+    let h : room (l .s) ≤ 4096 = omega arith in (
+      search needs,
+      (
+        omega (arith, ap room e, step-room (l .s) b),
+        (
+          ap (λ (s : Reading). length (s .list)) e ∙ step-length (l .s) b ∙ l .inv .1 .1 .0,
+          ap (λ (s : Reading). gives s (drop (l .i + 1) text)) e ∙ gives-next (l .s) text (l .i) (search needs) h (l .inv .1 .1 .0) ∙ l .inv .1 .1 .1,
+        ),
+      ),
+    )
+
+end-token-requires : tie.Need-end-token-requires Inv-loop μ-loop
+end-token-requires c κs = omega arith
+
+returns : tie.Need-returns Inv-loop μ-loop
+returns c =
+    let l = c .before .before .loop in
+    let text = c .before .before .before .before .args .text .now in
+    let e = c .end-token .ensures in
+    let h : room (l .s) ≤ 4096 = omega arith in
+    record {
+      fits = omega (arith, ap (λ (s : Reading). s .count) e, ap (λ (s : Reading). length (s .list)) e, ended-fits (l .s) h (l .inv .1 .1 .0));
+      answer =
+          ap (λ (s : Reading). take (s .count) (s .list)) e
+          ∙ sym (gives-end (l .s) h (l .inv .1 .1 .0))
+          ∙ ap (gives (l .s)) (sym (drop-of-length-le text {i = l .i} (search needs)))
+          ∙ l .inv .1 .1 .1;
+    }
+
+pub read-radices-spec : {M : Type 1} → statement M
+read-radices-spec =
+    tie.close
+    (tie.spec
+    Inv-loop
+    μ-loop
+    loop-holds
+    shared-slice-read-step
+    step-requires
+    add-i
+    loop-less
+    loop-again
+    end-token-requires
+    returns)

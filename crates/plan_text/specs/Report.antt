@@ -1,0 +1,66 @@
+-- What the plan program prints for which input. Assumes nothing.
+use Prim.Native.Nat.{ℕ, _-_, _≤_}
+use mathlib.Core.Path.{_≡_}
+use mathlib.Core.List.{List, [], _∷_, _++_, map}
+use lib.ListN.{length, take, replicate}
+use Rattle.refusal.specs.Refusal.{numberOf, placeOf}
+use Rattle.refusal.specs.declared.Refusal.{Refusal}
+use Rattle.refusal.specs.declared.Verdict.{Verdict}
+use Rattle.refusal.specs.declared.Verdict.the-variants.{Accepted, Refused}
+use Rattle.plan.specs.Record.{planned}
+use Rattle.plan.specs.Counts.{twiddleStart, endCount, resultIn}
+use Rattle.plan.specs.declared.Record.{Record}
+use Rattle.plan.specs.declared.Merges.{Merges}
+use Rattle.plan.specs.declared.Planned.{Planned}
+use Rattle.plan.specs.declared.Buffer.{Buffer}
+use Rattle.plan.specs.declared.Buffer.the-variants.{Data, Scratchpad}
+use Rattle.plan_text.specs.Tokens.{radices, firstRead}
+use Rattle.plan_text.specs.Lines.{ascii, decimal, line}
+use Rattle.plan_text.specs.declared.Text.{Text}
+
+-- the radices as words, and a dash for none
+unfoldable pub factorWords : List ℕ → List (List ℕ)
+factorWords [] = ascii "-" ∷ []
+factorWords (b ∷ bs) = map decimal (b ∷ bs)
+
+-- the name of a buffer
+abbrev pub bufferName : Buffer → List ℕ
+bufferName Data = ascii "data"
+bufferName Scratchpad = ascii "scratchpad"
+
+-- a plan, in seven lines
+unfoldable pub planLines : Record → Merges → List ℕ
+planLines p m =
+    line "n" (decimal (p .n) ∷ [])
+    ++ (line "half" (decimal (p .half) ∷ [])
+    ++ (line "factors" (factorWords (take (p .count) (p .radices)))
+    ++ (line "merges" (decimal (m .count) ∷ [])
+    ++ (line "stage" (decimal (twiddleStart (p .half) (p .radices) (p .count)) ∷ [])
+    ++ (line "end" (decimal (endCount (p .n)) ∷ [])
+    ++ line "result" (bufferName (resultIn (p .count)) ∷ []))))))
+
+-- a refusal, in one line
+unfoldable pub refusalLine : Refusal → List ℕ
+refusalLine why = line "refused" (decimal (numberOf why) ∷ decimal (placeOf why) ∷ [])
+
+-- a plan or a refusal, as the verdict says
+abbrev pub linesBy : Verdict → Record → Merges → List ℕ
+linesBy Accepted p m = planLines p m
+linesBy (Refused why) p m = refusalLine why
+
+-- what planning answered, in lines
+abbrev pub linesOf : Planned → List ℕ
+linesOf a = linesBy (a .verdict) (a .plan) (a .merges)
+
+-- the first bytes of the input are read, parted into tokens and planned
+unfoldable pub reportOf : List ℕ → List ℕ
+reportOf input = linesOf (planned (radices (firstRead input)))
+
+-- bytes as a text, unused bytes 0
+abbrev pub textOf : List ℕ → Text
+textOf xs = record { bytes = xs ++ replicate (256 - length xs) 0; len = length xs }
+
+-- what `report` promises of its answer
+pub record Reports (input : List ℕ) (r : Text) : Type 0 where
+  pub answer : r ≡ textOf (reportOf input)
+  pub fits : length (reportOf input) ≤ 256

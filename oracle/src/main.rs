@@ -1,0 +1,60 @@
+//! The oracle: the original Rust at scalar width, asked case by case. It stands in place of the original's crate root.
+//!
+//! `oracle planning` and `oracle scaling` print a line for each case, and `oracle sample planning` and
+//! `oracle sample scaling` the recorded ones among them; text.rs says what stands in a line. The counts go to standard error.
+extern crate alloc;
+
+mod butterflies;
+#[allow(dead_code, unused_imports, unused_macros)]
+mod fft;
+mod lists;
+mod planning;
+#[allow(dead_code)]
+mod rates;
+mod rust;
+mod scaling;
+mod table;
+mod text;
+
+use fft::{Complex32, Radix};
+use rates::{SampleRate, SampleRateFamily};
+use std::io::{stdout, BufWriter, Write};
+
+/// Prints the lines, and says how many there are and how many are refusals.
+fn print(kind: &str, lines: impl Iterator<Item = (String, bool)>) -> std::io::Result<()> {
+    let mut out = BufWriter::new(stdout().lock());
+    let (mut all, mut refused) = (0, 0);
+    for (line, is_refused) in lines {
+        writeln!(out, "{line}")?;
+        all += 1;
+        refused += usize::from(is_refused);
+    }
+    out.flush()?;
+    eprintln!("oracle: {kind}: {all} cases, {refused} of them refused");
+    Ok(())
+}
+
+fn main() -> std::io::Result<()> {
+    let words: Vec<String> = std::env::args().skip(1).collect();
+    let words: Vec<&str> = words.iter().map(String::as_str).collect();
+    let planning = |cases: Vec<planning::Case>| {
+        cases
+            .into_iter()
+            .map(|case| (case.line(), case.is_refused()))
+    };
+    let scaling = |cases: Vec<scaling::Case>| {
+        cases
+            .into_iter()
+            .map(|case| (case.line(), case.is_refused()))
+    };
+    match words.as_slice() {
+        ["planning"] => print("planning", planning(planning::cases())),
+        ["scaling"] => print("scaling", scaling(scaling::cases())),
+        ["sample", "planning"] => print("recorded planning", planning(planning::sample())),
+        ["sample", "scaling"] => print("recorded scaling", scaling(scaling::sample())),
+        _ => {
+            eprintln!("usage: oracle [sample] planning|scaling");
+            std::process::exit(2)
+        }
+    }
+}

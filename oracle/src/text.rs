@@ -1,0 +1,55 @@
+//! The text of an answer: a line for each case, every column at its own place, so that a program reads it by counting bytes.
+//!
+//! A planning line has 97 bytes, its line end among them; the columns, parted by a blank, with their widths:
+//! lent list 16, number 2, place 2, n 4, half 4, count of stages 2, radices 13, count of merges 2, letters 13,
+//! count of the half list 2, half list 13, stage twiddles 5, end twiddles 4, buffer of the result 1 (0 Data, 1 Scratchpad).
+//!
+//! A scaling line has 88 bytes: in-list 16, out-list 16, number 2, place 2, p 3, in-product 4, out-product 4,
+//! count of the scaled in-list 2, that list 13, count of the scaled out-list 2, that list 13.
+//!
+//! Numbers are decimal with zeros in front. A list has a character for each byte and `.` where there is none: a digit
+//! stands for its own value, a capital letter for its own byte in ASCII, a to y for 10, 20 and so on to 250, and z for 255.
+use crate::lists::RADICES;
+
+/// How many entries a lent list has at most.
+pub const LENT: usize = 16;
+
+/// How many entries a list in an answer has at most.
+pub const HELD: usize = 13;
+
+/// The character that stands for a byte.
+fn glyph(byte: u8) -> char {
+    match byte {
+        0..=9 => char::from(b'0' + byte),
+        b'A'..=b'Z' => char::from(byte),
+        255 => 'z',
+        _ if byte % 10 == 0 => char::from(b'a' + byte / 10 - 1),
+        _ => panic!("no character stands for byte {byte}"),
+    }
+}
+
+/// The bytes that are no radix and that a character stands for.
+pub fn no_radices() -> Vec<u8> {
+    let has_glyph = |byte: u8| matches!(byte, 0..=9 | b'A'..=b'Z' | 255) || byte % 10 == 0;
+    (0..=255)
+        .filter(|&byte| has_glyph(byte) && !RADICES.contains(&byte))
+        .collect()
+}
+
+/// A list in a column of its width.
+pub fn list(bytes: &[u8], width: usize) -> String {
+    assert!(
+        bytes.len() <= width,
+        "a list of {} does not fit {width} columns",
+        bytes.len()
+    );
+    let text: String = bytes.iter().map(|&byte| glyph(byte)).collect();
+    format!("{text:.<width$}")
+}
+
+/// A number in a column of its width.
+pub fn number(value: usize, width: usize) -> String {
+    let text = format!("{value:0width$}");
+    assert!(text.len() == width, "{value} does not fit {width} columns");
+    text
+}
