@@ -1,4 +1,4 @@
--- Laws of planning: the verdict test by test, and the answer put together. Assumes nothing.
+-- Laws of planning: the answer put together, and the verdict on a record. Assumes nothing.
 use Prim.Native.Nat.{ℕ, _/_, _%_, _<_, _≤_}
 use native.Mathlib.Omega.{arith}
 use mathlib.Core.Path.{_≡_, refl, ap, _∙_}
@@ -23,34 +23,6 @@ use Rattle.plan.proofs.Lists.{length-padded}
 use Rattle.plan.proofs.Merging.{merged-leaves}
 use Rattle.plan.proofs.Products.{total-few}
 use Rattle.plan.proofs.Records.{Good, good-few, good-halved, take-padded}
-
--- ---- the verdict, test by test
-
-module _ (xs : List ℕ) where
-  pub plan-empty : length xs ≡ 0 → planVerdict xs ≡ Refused Empty
-  unfolding planVerdict
-  plan-empty e = simp (eq-eqb (length xs) 0 e)
-
-  module _ (some : length xs ≡ 0 → ⊥) where
-    pub plan-bad : firstBad xs < length xs → planVerdict xs ≡ Refused (NoRadix (firstBad xs))
-    unfolding planVerdict
-    plan-bad h = simp (ne-eqb (length xs) 0 some, lt-ltb (firstBad xs) (length xs) h)
-
-    module _ (radices : length xs ≤ firstBad xs) where
-      pub plan-over : firstOver 1 xs < length xs → planVerdict xs ≡ Refused (TooLarge (firstOver 1 xs))
-      unfolding planVerdict
-      plan-over h = simp (ne-eqb (length xs) 0 some, le-ltb (firstBad xs) (length xs) radices, lt-ltb (firstOver 1 xs) (length xs) h)
-
-      module _ (small : length xs ≤ firstOver 1 xs) where
-        pub plan-odd : product xs % 2 ≡ 1 → planVerdict xs ≡ Refused Odd
-        unfolding planVerdict
-        plan-odd e =
-            simp (ne-eqb (length xs) 0 some, le-ltb (firstBad xs) (length xs) radices, le-ltb (firstOver 1 xs) (length xs) small, eq-eqb (product xs % 2) 1 e)
-
-        pub plan-accepted : (product xs % 2 ≡ 1 → ⊥) → planVerdict xs ≡ Accepted
-        unfolding planVerdict
-        plan-accepted n =
-            simp (ne-eqb (length xs) 0 some, le-ltb (firstBad xs) (length xs) radices, le-ltb (firstOver 1 xs) (length xs) small, ne-eqb (product xs % 2) 1 n)
 
 -- ---- the answer
 

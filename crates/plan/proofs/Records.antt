@@ -21,6 +21,7 @@ use Rattle.plan.specs.Record.{planVerdict, factors, recordOf, Plannable,
 use Rattle.plan.specs.declared.Record.{Record}
 use Rattle.plan.specs.declared.inner.lists.Running.{Running}
 use Rattle.plan.specs.declared.inner.merging.Tally.{Tally}
+use Rattle.plan.proofs.Tests.{plan-accepted}
 use Rattle.plan.proofs.Lists.{running-all, running-place, length-padded}
 use Rattle.plan.proofs.Merging.{low, Keeps, length-sorted, merged-leaves, closed, none-at, merged-stop}
 use Rattle.plan.proofs.Products.{Radical, radical, radical-none-bad, radical-sorted, over-none-small, small-over-none, entries-few, weight, product-sorted, product-tally, tally-sorted, total-few, weight-tells}
@@ -82,12 +83,11 @@ accepted-good xs e =
     even-or-odd n h = omega arith
 
 pub good-accepted : (xs : List ℕ) → Good xs → planVerdict xs ≡ Accepted
-unfolding planVerdict
 good-accepted xs g =
     let bad = radical-none-bad xs (g .radices) in
     let over = small-over-none 1 xs (g .radices) (rw one-mul (g .small)) in
-    simp
-    (ne-eqb (length xs) 0 (λ (e : length xs ≡ 0). omega (arith, g .some)), le-ltb (firstBad xs) (length xs) (omega (arith, bad)), le-ltb (firstOver 1 xs) (length xs) (omega (arith, over)), ne-eqb (product xs % 2) 1 (λ (e : product xs % 2 ≡ 1). omega (arith, g .even)))
+    plan-accepted xs (λ (e : length xs ≡ 0). omega (arith, g .some)) (omega (arith, bad)) (omega (arith, over))
+    (λ (e : product xs % 2 ≡ 1). omega (arith, g .even))
 
 pub good-few : (xs : List ℕ) → Good xs → length xs ≤ 13
 good-few xs g = entries-few xs (g .radices) (g .small)

@@ -6,6 +6,7 @@ use mathlib.Core.Bool.{Bool, true, false}
 use mathlib.Core.List.{List, [], _∷_}
 use Rattle.refusal.proofs.Unique.{agree}
 use Rattle.refusal.specs.declared.Refusal.{Refusal}
+use Rattle.refusal.specs.declared.Refusal.the-variants.{NoRadix}
 use Rattle.refusal.specs.declared.Verdict.the-variants.{Accepted, Refused}
 use Rattle.plan.specs.declared.Buffer.{Buffer}
 use Rattle.plan.specs.declared.Record.{Record}
@@ -80,3 +81,8 @@ one-plan r p =
 pub halved-first : planned (2 ∷ 2 ∷ 3 ∷ []) .merges .count ≡ 0
 unfolding planned planVerdict firstBad firstThat isRadix firstOver product acceptedPlan marked letters rules rulesUpTo firstRule applies tally countOf half halving halved indexOf
 halved-first = refl
+
+-- a byte that is no radix is reported before a product that is too large
+pub two-before-three : planned (8 ∷ 8 ∷ 8 ∷ 8 ∷ 8 ∷ 9 ∷ []) .verdict ≡ Refused (NoRadix 5)
+unfolding planned planVerdict firstBad firstThat isRadix firstOver product refusedPlan
+two-before-three = refl

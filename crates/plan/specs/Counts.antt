@@ -35,6 +35,10 @@ unfoldable pub twiddleStart : (h : ℕ) → List ℕ → ℕ → ℕ
 twiddleStart h rs zero = 0
 twiddleStart h rs (suc j) = twiddleStart h rs j + twiddleCount h rs j
 
+-- the twiddles of all stages, where those of one stage more would start
+abbrev pub stageTwiddles : Record → ℕ
+stageTwiddles p = twiddleStart (p .half) (p .radices) (p .count)
+
 -- k from 1 to n / 4 - 1 if 4 divides n, else to n / 4
 unfoldable pub endCount : ℕ → ℕ
 endCount n = cond (eqb (n % 4) 0) (n / 4 - 1) (n / 4)
@@ -72,7 +76,7 @@ located (Refused why) b = record { verdict = Refused why; buffer = Data }
 
 -- what `stage_twiddles` promises of its answer
 pub record CountsStage (p : Record) (r : Counted) : Type 0 where
-  pub answer : r ≡ counted (recordVerdict p) (twiddleStart (p .half) (p .radices) (p .count))
+  pub answer : r ≡ counted (recordVerdict p) (stageTwiddles p)
 
 -- what `end_twiddles` promises of its answer
 pub record CountsEnd (p : Record) (r : Counted) : Type 0 where

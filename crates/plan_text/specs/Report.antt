@@ -8,7 +8,7 @@ use Rattle.refusal.specs.declared.Refusal.{Refusal}
 use Rattle.refusal.specs.declared.Verdict.{Verdict}
 use Rattle.refusal.specs.declared.Verdict.the-variants.{Accepted, Refused}
 use Rattle.plan.specs.Record.{planned}
-use Rattle.plan.specs.Counts.{twiddleStart, endCount, resultIn}
+use Rattle.plan.specs.Counts.{stageTwiddles, endCount, resultIn}
 use Rattle.plan.specs.declared.Record.{Record}
 use Rattle.plan.specs.declared.Merges.{Merges}
 use Rattle.plan.specs.declared.Planned.{Planned}
@@ -35,7 +35,7 @@ planLines p m =
     ++ (line "half" (decimal (p .half) ∷ [])
     ++ (line "factors" (factorWords (take (p .count) (p .radices)))
     ++ (line "merges" (decimal (m .count) ∷ [])
-    ++ (line "stage" (decimal (twiddleStart (p .half) (p .radices) (p .count)) ∷ [])
+    ++ (line "stage" (decimal (stageTwiddles p) ∷ [])
     ++ (line "end" (decimal (endCount (p .n)) ∷ [])
     ++ line "result" (bufferName (resultIn (p .count)) ∷ []))))))
 

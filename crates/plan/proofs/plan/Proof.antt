@@ -6,7 +6,8 @@ use Rattle.refusal.specs.declared.Refusal.the-variants.{Empty, NoRadix, TooLarg
 use Rattle.refusal.specs.declared.Verdict.the-variants.{Refused}
 use Rattle.plan.specs.Lists.{product}
 use Rattle.plan.proofs.Records.{running-early, running-through}
-use Rattle.plan.proofs.Planning.{plan-empty, plan-bad, plan-over, plan-odd, plan-accepted, answer-refused, answer-accepted}
+use Rattle.plan.proofs.Tests.{plan-empty, plan-bad, plan-over, plan-odd, plan-accepted}
+use Rattle.plan.proofs.Planning.{answer-refused, answer-accepted}
 use Rattle.plan.proofs.plan.Statement.{statement}
 use Rattle.plan.proofs.plan.Tie as tie
 

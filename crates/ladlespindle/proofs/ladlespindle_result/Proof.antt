@@ -1,0 +1,26 @@
+-- `ladlespindle_result` meets its promise: the buffer of the record that planning answers, as a number. Assumes nothing.
+use borrow.Author.Needs.{needs}
+use mathlib.Core.Path.{_∙_}
+use Rattle.plan.specs.Counts.{resultIn}
+use Rattle.plan.specs.declared.Record.{Record}
+use Rattle.ladlespindle.proofs.Answers.{buffer-for}
+use Rattle.ladlespindle.proofs.ladlespindle_result.Statement.{statement}
+use Rattle.ladlespindle.proofs.ladlespindle_result.Tie as tie
+
+plan-requires : tie.Need-plan-requires
+plan-requires c κs = search needs
+
+result-requires : tie.Need-result-requires
+result-requires c κs = search needs
+
+number-requires : tie.Need-number-requires
+number-requires c κs = search needs
+
+returns : tie.Need-returns
+returns c =
+    let locating = c .before in
+    let planning = locating .before in
+    record { answer = c .number .ensures .answer ∙ buffer-for (planning .before .before .args .list .now) (planning .plan .result) (planning .plan .ensures .answer) (λ (p : Record). resultIn (p .count)) (locating .result .result) (locating .result .ensures .answer) }
+
+pub ladlespindle-result-spec : {M : Type 1} → statement M
+ladlespindle-result-spec = tie.close (tie.spec plan-requires result-requires number-requires returns)

@@ -1,0 +1,20 @@
+-- `ladlespindle_stage_twiddles` meets its promise: the count of the record that planning answers. Assumes nothing.
+use borrow.Author.Needs.{needs}
+use Rattle.plan.specs.Counts.{stageTwiddles}
+use Rattle.ladlespindle.proofs.Answers.{count-for}
+use Rattle.ladlespindle.proofs.ladlespindle_stage_twiddles.Statement.{statement}
+use Rattle.ladlespindle.proofs.ladlespindle_stage_twiddles.Tie as tie
+
+plan-requires : tie.Need-plan-requires
+plan-requires c κs = search needs
+
+stage-twiddles-requires : tie.Need-stage-twiddles-requires
+stage-twiddles-requires c κs = search needs
+
+returns : tie.Need-returns
+returns c =
+    let planning = c .before in
+    record { answer = count-for (planning .before .before .args .list .now) (planning .plan .result) (planning .plan .ensures .answer) stageTwiddles (c .stage-twiddles .result) (c .stage-twiddles .ensures .answer) }
+
+pub ladlespindle-stage-twiddles-spec : {M : Type 1} → statement M
+ladlespindle-stage-twiddles-spec = tie.close (tie.spec plan-requires stage-twiddles-requires returns)

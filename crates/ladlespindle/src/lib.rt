@@ -1,0 +1,156 @@
+// The functions that a host written in C links: planning, its refusals, counts and scaling, on lists of radices.
+use plan::Radices;
+use plan::Record;
+ghost use mathlib.Core.Path.{_≡_};
+ghost use lib.ListN.{getD};
+ghost use Rattle.ladlespindle.specs.Exports.{GivesPlan, GivesNumber, GivesPlace, GivesLength, GivesHalf, GivesStages, GivesMerges, GivesRadix, GivesLetter, GivesStageTwiddles, GivesEndTwiddles, GivesResult, GivesAcceptance, GivesScaling};
+
+// What scaling answers, with the refusal as two numbers.
+#[repr(C)]
+pub struct Scaling {
+    pub number: u32,
+    pub place: usize,
+    pub p: usize,
+    pub in_product: usize,
+    pub out_product: usize,
+    pub in_list: Radices,
+    pub out_list: Radices,
+}
+
+// The plan of a list, every number 0 on a refusal.
+#[no_mangle]
+pub extern "C" fn ladlespindle_plan(list: &[u8]) -> Record
+    ensures { λ r. ⌜ GivesPlan (now (list .entry)) r ⌝ }
+{
+    plan::plan(list).plan
+}
+
+// The number of a list's refusal, 0 for an accepted list.
+#[no_mangle]
+pub extern "C" fn ladlespindle_refusal_number(list: &[u8]) -> u32
+    ensures { λ r. ⌜ GivesNumber (now (list .entry)) r ⌝ }
+{
+    let verdict = plan::plan(list).verdict;
+    verdict.number()
+}
+
+// The place of a list's refusal, 0 for an accepted list.
+#[no_mangle]
+pub extern "C" fn ladlespindle_refusal_place(list: &[u8]) -> usize
+    ensures { λ r. ⌜ GivesPlace (now (list .entry)) r ⌝ }
+{
+    let verdict = plan::plan(list).verdict;
+    verdict.place()
+}
+
+// The length n of a list's plan, 0 on a refusal.
+#[no_mangle]
+pub extern "C" fn ladlespindle_n(list: &[u8]) -> usize
+    ensures { λ r. ⌜ GivesLength (now (list .entry)) r ⌝ }
+{
+    plan::plan(list).plan.n
+}
+
+// Half of that length, 0 on a refusal.
+#[no_mangle]
+pub extern "C" fn ladlespindle_half(list: &[u8]) -> usize
+    ensures { λ r. ⌜ GivesHalf (now (list .entry)) r ⌝ }
+{
+    plan::plan(list).plan.half
+}
+
+// How many stages a list's plan has, 0 on a refusal.
+#[no_mangle]
+pub extern "C" fn ladlespindle_stages(list: &[u8]) -> usize
+    ensures { λ r. ⌜ GivesStages (now (list .entry)) r ⌝ }
+{
+    plan::plan(list).plan.count
+}
+
+// The radix of a stage, counted from 0; 0 past the last stage and on a refusal.
+#[no_mangle]
+pub extern "C" fn ladlespindle_radix(list: &[u8], stage: usize) -> u8
+    ensures { λ r. ⌜ GivesRadix (now (list .entry)) stage r ⌝ }
+{
+    let plan = plan::plan(list).plan;
+    let radices = plan.radices;
+    entry(radices, stage)
+}
+
+// How many merges led to a list's plan, 0 on a refusal.
+#[no_mangle]
+pub extern "C" fn ladlespindle_merges(list: &[u8]) -> usize
+    ensures { λ r. ⌜ GivesMerges (now (list .entry)) r ⌝ }
+{
+    plan::plan(list).merges.count
+}
+
+// The letter of a merge, counted from 0; 0 past the last merge and on a refusal.
+#[no_mangle]
+pub extern "C" fn ladlespindle_merge_letter(list: &[u8], index: usize) -> u8
+    ensures { λ r. ⌜ GivesLetter (now (list .entry)) index r ⌝ }
+{
+    let merges = plan::plan(list).merges;
+    let letters = merges.letters;
+    entry(letters, index)
+}
+
+// How many twiddles the stages of a list's plan have together, 0 on a refusal.
+#[no_mangle]
+pub extern "C" fn ladlespindle_stage_twiddles(list: &[u8]) -> usize
+    ensures { λ r. ⌜ GivesStageTwiddles (now (list .entry)) r ⌝ }
+{
+    plan::stage_twiddles(plan::plan(list).plan).count
+}
+
+// How many end twiddles a list's plan has, 0 on a refusal.
+#[no_mangle]
+pub extern "C" fn ladlespindle_end_twiddles(list: &[u8]) -> usize
+    ensures { λ r. ⌜ GivesEndTwiddles (now (list .entry)) r ⌝ }
+{
+    plan::end_twiddles(plan::plan(list).plan).count
+}
+
+// The buffer that holds the result of a run: 0 for Data and on a refusal, 1 for Scratchpad.
+#[no_mangle]
+pub extern "C" fn ladlespindle_result(list: &[u8]) -> u32
+    ensures { λ r. ⌜ GivesResult (now (list .entry)) r ⌝ }
+{
+    let buffer = plan::result(plan::plan(list).plan).buffer;
+    buffer.number()
+}
+
+// Whether some list plans to this record: 1 or 0.
+#[no_mangle]
+pub extern "C" fn ladlespindle_accepts(plan: Record) -> u32
+    ensures { λ r. ⌜ GivesAcceptance plan r ⌝ }
+{
+    if plan::accepts(plan) { 1 } else { 0 }
+}
+
+// Both base lists scaled so that the in-list's product is at least 512, or the refusal and every other number 0.
+#[no_mangle]
+pub extern "C" fn ladlespindle_scale(in_list: &[u8], out_list: &[u8]) -> Scaling
+    ensures { λ r. ⌜ GivesScaling (now («in_list» .entry)) (now («out_list» .entry)) r ⌝ }
+{
+    let scaled = plan::scale(in_list, out_list);
+    let verdict = scaled.verdict;
+    let grown_in = scaled.in_list;
+    let grown_out = scaled.out_list;
+    Scaling {
+        number: verdict.number(),
+        place: verdict.place(),
+        p: scaled.p,
+        in_product: scaled.in_product,
+        out_product: scaled.out_product,
+        in_list: grown_in,
+        out_list: grown_out,
+    }
+}
+
+// An entry of an array, 0 past its end.
+fn entry(entries: [u8; 13], at: usize) -> u8
+    ensures { λ r. ⌜ r ≡ getD entries at 0 ⌝ }
+{
+    if at < 13 { entries[at] } else { 0 }
+}

@@ -1,0 +1,130 @@
+/* ladlespindle.h: planning of spectra for a C host.
+ *
+ * Every function takes whatever it is lent, ends, and allocates nothing. A list is bytes, one radix each: 2, 3, 4, 5,
+ * 7 or 8. Its product is the length n, even and at most 8,192.
+ *
+ * Lengths are in elements. NULL with length 0 is an empty list. Lists that are only read may overlap each other; a
+ * buffer that a call writes may overlap nothing else that is lent to it. No function here writes what it is lent.
+ *
+ * To link (x86-64 Linux, any C library): `rt staticlib ladlespindle` proves the functions and writes
+ * target/staticlib/libladlespindle.a, which wants nothing but memcpy and memset:
+ *
+ *     cc -I include host.c target/staticlib/libladlespindle.a
+ */
+#ifndef LADLESPINDLE_H
+#define LADLESPINDLE_H
+
+#include <stddef.h>
+#include <stdint.h>
+
+#ifdef __cplusplus
+extern "C" {
+#endif
+
+/* Why a call is refused. A place is 0 unless the line names one. */
+enum ladlespindle_refusal {
+    LADLESPINDLE_ACCEPTED = 0,
+    LADLESPINDLE_EMPTY = 1,       /* the list is empty */
+    LADLESPINDLE_NO_RADIX = 2,    /* a byte is no radix; place: its index */
+    LADLESPINDLE_TOO_LARGE = 3,   /* the product is above 8,192; place: the first index where the running product is */
+    LADLESPINDLE_ODD = 4,         /* the product is odd */
+    LADLESPINDLE_NOT_PLANNED = 5, /* the plan is not one that planning gives */
+    LADLESPINDLE_WIDTH = 6,       /* the width is not 1, 2 or 4 */
+    LADLESPINDLE_NOT_HOUSED = 7,  /* the house table does not serve the length */
+    LADLESPINDLE_LENGTH = 8,      /* a lent length is wrong; place: 0 input, 1 output, 2 scratch, 3 stage, 4 end twiddles */
+    LADLESPINDLE_NUMBER = 9,      /* a number is not finite or too large; place: its index */
+    LADLESPINDLE_TWIDDLE = 10,    /* a twiddle's number is not finite or above 1; place: its index, stage then end */
+    LADLESPINDLE_MODULUS = 11,    /* the modulus is below 2 */
+    LADLESPINDLE_BASE = 12,       /* the base is not below the modulus, or its power is not 1 */
+    LADLESPINDLE_REMAINDER = 13,  /* a remainder is not below the modulus; place: its index */
+    LADLESPINDLE_BINS = 14,       /* the bins asked for are no range of bins */
+    LADLESPINDLE_STAGE = 15       /* the plan has no such stage */
+};
+
+/* A plan: the length, its half, and the radices of the stages in ascending order, unused entries 0. */
+typedef struct {
+    size_t n;
+    size_t half;
+    size_t count;
+    uint8_t radices[13];
+} ladlespindle_record;
+
+/* A list of radices, unused entries 0. */
+typedef struct {
+    size_t count;
+    uint8_t entries[13];
+} ladlespindle_radices;
+
+/* What scaling answers: the refusal, or the power of two p with both scaled products and lists. */
+typedef struct {
+    uint32_t number;
+    size_t place;
+    size_t p;
+    size_t in_product;
+    size_t out_product;
+    ladlespindle_radices in_list;
+    ladlespindle_radices out_list;
+} ladlespindle_scaling;
+
+/* The plan of a list.
+ * On a refusal every number of it is 0. */
+ladlespindle_record ladlespindle_plan(const uint8_t *list, size_t length);
+
+/* The number of a list's refusal (1, 2, 3 or 4, in this order of tests).
+ * 0 for a list that is accepted. */
+uint32_t ladlespindle_refusal_number(const uint8_t *list, size_t length);
+
+/* The place of a list's refusal.
+ * 0 for a list that is accepted. */
+size_t ladlespindle_refusal_place(const uint8_t *list, size_t length);
+
+/* The length n of a list's plan.
+ * 0 on a refusal. */
+size_t ladlespindle_n(const uint8_t *list, size_t length);
+
+/* Half of that length, the number of complex cells of a stage.
+ * 0 on a refusal. */
+size_t ladlespindle_half(const uint8_t *list, size_t length);
+
+/* How many stages a list's plan has; a list of a single 2 has none.
+ * 0 on a refusal. */
+size_t ladlespindle_stages(const uint8_t *list, size_t length);
+
+/* The radix of a stage, counted from 0.
+ * 0 past the last stage and on a refusal. */
+uint8_t ladlespindle_radix(const uint8_t *list, size_t length, size_t stage);
+
+/* How many merges led from a list to its plan.
+ * 0 on a refusal. */
+size_t ladlespindle_merges(const uint8_t *list, size_t length);
+
+/* The letter of a merge, counted from 0: 'A' 4+2 to 8, 'B' 2+2+2 to 8, 'C' 4+4 to 8+2, 'D' 2+2 to 4.
+ * 0 past the last merge and on a refusal. */
+uint8_t ladlespindle_merge_letter(const uint8_t *list, size_t length, size_t index);
+
+/* How many twiddles the stages of a list's plan have together; each is two numbers.
+ * 0 on a refusal. */
+size_t ladlespindle_stage_twiddles(const uint8_t *list, size_t length);
+
+/* How many end twiddles a list's plan has; each is two numbers.
+ * 0 on a refusal. */
+size_t ladlespindle_end_twiddles(const uint8_t *list, size_t length);
+
+/* The buffer that holds the result of a run: 0 for Data, 1 for Scratchpad.
+ * 0 on a refusal. */
+uint32_t ladlespindle_result(const uint8_t *list, size_t length);
+
+/* Whether a record is the plan of some list, unused entries included.
+ * 1 if it is, 0 if not. */
+uint32_t ladlespindle_accepts(ladlespindle_record plan);
+
+/* Two base lists, either of which may be empty, scaled by the smallest power of two that brings the in-product to 512.
+ * Refused with 2 or 3: places run on from the in-list to the out-list, and a scaled out-product that is too large has
+ * the joined length for its place; every other number is then 0. */
+ladlespindle_scaling ladlespindle_scale(const uint8_t *in_list, size_t in_length, const uint8_t *out_list, size_t out_length);
+
+#ifdef __cplusplus
+}
+#endif
+
+#endif
