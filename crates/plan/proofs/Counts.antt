@@ -24,7 +24,7 @@ radical-at [] j r h = absurd (omega arith)
 radical-at (b ∷ bs) zero r h = r .0
 radical-at (b ∷ bs) (suc j) r h = radical-at bs j (r .1) (omega arith)
 
-getD-any : (xs : List ℕ) (j a b : ℕ) → j < length xs → getD xs j a ≡ getD xs j b
+pub getD-any : (xs : List ℕ) (j a b : ℕ) → j < length xs → getD xs j a ≡ getD xs j b
 getD-any [] j a b h = absurd (omega arith)
 getD-any (x ∷ xs) zero a b h = refl
 getD-any (x ∷ xs) (suc j) a b h = getD-any xs j a b (omega arith)

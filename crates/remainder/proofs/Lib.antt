@@ -1,0 +1,12 @@
+-- The laws that the proofs share, by subject, and the theorems; `Theorems` is the one to open first.
+pub mod Sums
+pub mod Step
+pub mod Transform
+pub mod Powers
+pub mod Rows
+pub mod Shapes
+pub mod Iteration
+pub mod Columns
+pub mod Verdicts
+pub mod Theorems
+pub mod Unique

@@ -1,0 +1,12 @@
+-- Two outcomes that meet a promise are equal. Assumes nothing.
+use Prim.Native.Nat.{ℕ}
+use mathlib.Core.Path.{_≡_}
+use mathlib.Core.List.{List}
+use Rattle.refusal.specs.declared.Verdict.{Verdict}
+use Rattle.refusal.proofs.Unique.{agree}
+use Rattle.plan.specs.declared.Record.{Record}
+use Rattle.remainder.specs.Calls.{Stages}
+
+pub Stages-one : {p : Record} {j m w : ℕ} {input other : List ℕ} {r s : Verdict} {ys zs : List ℕ}
+    → Stages p j m w input other r ys → Stages p j m w input other s zs → (r ≡ s) × (ys ≡ zs)
+Stages-one a b = (agree (a .answer) (b .answer), agree (a .cells) (b .cells))

@@ -1,0 +1,72 @@
+-- `remainder::inner::check::first_large` meets its contract. Assumes nothing.
+use borrow.Author.Needs.{needs}
+use mathlib.Core.Path.{_≡_, sym, ap}
+use mathlib.Core.Bool.{Bool, not}
+use lib.Dec.{ltb}
+use lib.ListN.{length, drop}
+use Prim.Native.Nat.{ℕ, _+_, _-_, _≤_}
+use borrow.Author.Tests.{lt-ltb, le-ltb}
+use Rattle.plan.specs.Lists.{firstThat}
+use Rattle.plan.proofs.Lists.{first-skip, first-here, first-none}
+use Rattle.remainder.specs.Calls.{firstLarge}
+use Rattle.remainder.proofs.inner.check.first_large.Statement.{statement}
+use Rattle.remainder.proofs.inner.check.first_large.Tie as tie
+
+abbrev Inv-loop : tie.InvT-loop
+Inv-loop list m i₀ i = (i ≤ length list) × (firstThat (λ (x : ℕ). not (ltb x m)) list ≡ i + firstThat (λ (x : ℕ). not (ltb x m)) (drop i list))
+
+abbrev μ-loop : tie.MeasureT-loop
+μ-loop list m i₀ i = length list - i
+
+loop-holds : tie.Need-loop-holds Inv-loop μ-loop
+loop-holds c = search needs
+
+mul-if2 : tie.Need-mul-if2 Inv-loop μ-loop
+mul-if2 c = search needs
+
+shared-slice-read-if2 : tie.Need-shared-slice-read-if2 Inv-loop μ-loop
+shared-slice-read-if2 c = search needs
+
+add-i : tie.Need-add-i Inv-loop μ-loop
+add-i c = search needs
+
+loop-less : tie.Need-loop-less Inv-loop μ-loop
+loop-less c = search needs
+
+loop-again : tie.Need-loop-again Inv-loop μ-loop
+loop-again c =
+    let a = c .before .before .before .before .args in
+    let l = c .before .before .before .loop in
+    let p : ℕ → Bool = λ x. not (ltb x (a .m)) in
+    (search needs, first-skip p (a .list .now) (l .i) (search needs) (ap not (lt-ltb _ (a .m) (c .if2 .left))) (l .inv .1))
+
+returns : tie.Need-returns Inv-loop μ-loop
+unfolding firstLarge
+returns c =
+    let a = c .before .before .args in
+    let l = c .before .loop in
+    let p : ℕ → Bool = λ x. not (ltb x (a .m)) in
+    sym (first-none p (a .list .now) (l .i) (search needs) (search needs) (l .inv .1))
+
+returns-2 : tie.Need-returns-2 Inv-loop μ-loop
+unfolding firstLarge
+returns-2 c =
+    let a = c .before .before .before .before .args in
+    let l = c .before .before .before .loop in
+    let p : ℕ → Bool = λ x. not (ltb x (a .m)) in
+    sym (first-here p (a .list .now) (l .i) (search needs) (ap not (le-ltb _ (a .m) (c .if2 .taken))) (l .inv .1))
+
+pub first-large-spec : {M : Type 1} → statement M
+first-large-spec =
+    tie.close
+    (tie.spec
+    Inv-loop
+    μ-loop
+    loop-holds
+    mul-if2
+    shared-slice-read-if2
+    add-i
+    loop-less
+    loop-again
+    returns
+    returns-2)

@@ -1,0 +1,79 @@
+-- The calls in remainders: which are refused, what an accepted one leaves, and what each promises. Assumes nothing.
+use Prim.Native.Nat.{ℕ, zero, suc, _%_, _^_, _<_}
+use mathlib.Core.Path.{_≡_}
+use mathlib.Core.Bool.{true, not, _||_}
+use mathlib.Core.List.{List, [], _∷_}
+use lib.Dec.{eqb, ltb}
+use lib.ListN.{length}
+use Rattle.refusal.specs.Refusal.{Row, _⇒_, verdict}
+use Rattle.refusal.specs.declared.Refusal.the-variants.{NotPlanned, Length, Modulus, Base, Remainder, Stage}
+use Rattle.refusal.specs.declared.Verdict.{Verdict}
+use Rattle.refusal.specs.declared.Verdict.the-variants.{Accepted, Refused}
+use Rattle.plan.specs.Lists.{firstThat}
+use Rattle.plan.specs.Record.{isPlanned}
+use Rattle.plan.specs.declared.Record.{Record}
+use Rattle.schedule.specs.Plans.{inUse}
+use Rattle.schedule.specs.Stage.{stage}
+use Rattle.remainder.specs.Residues.{residues}
+use Rattle.remainder.specs.Rows.{Under}
+use Rattle.remainder.specs.Rows as Rows
+
+-- the index of the first number not below m, or the length
+unfoldable pub firstLarge : ℕ → List ℕ → ℕ
+firstLarge m xs = firstThat (λ x. not (ltb x m)) xs
+
+-- refusals 11, 12, 8 and 13 of h cells xs and another buffer of `room` cells, in this order
+abbrev pub lentRows : (h m w : ℕ) → List ℕ → (room : ℕ) → List Row
+lentRows h m w xs room =
+    ltb m 2 ⇒ Modulus
+    ∷ (not (ltb w m) || not (eqb (w ^ h % m) 1)) ⇒ Base
+    ∷ not (eqb (length xs) h) ⇒ Length 0
+    ∷ not (eqb room h) ⇒ Length 2
+    ∷ ltb (firstLarge m xs) (length xs) ⇒ Remainder (firstLarge m xs)
+    ∷ []
+
+unfoldable pub lentVerdict : (h m w : ℕ) → List ℕ → (room : ℕ) → Verdict
+lentVerdict h m w xs room = verdict (lentRows h m w xs room)
+
+-- a stage: refusals 5 and 15, then those
+unfoldable pub stageVerdict : Record → (j m w : ℕ) → List ℕ → (room : ℕ) → Verdict
+stageVerdict p j m w xs room = verdict (not (isPlanned p) ⇒ NotPlanned 0 ∷ not (ltb j (p .count)) ⇒ Stage ∷ lentRows (p .half) m w xs room)
+
+-- what an accepted call leaves in a buffer; a refused one leaves it as it is
+abbrev pub left {ℓ} : {A : Type ℓ} → Verdict → A → A → A
+left Accepted new old = new
+left (Refused why) new old = old
+
+-- the schedule's stage j of a plan in remainders
+abbrev pub stageOf : Record → (j m w : ℕ) → List ℕ → List ℕ
+stageOf p j m w xs = stage (residues m w (p .half) (inUse p)) (p .half) (inUse p) j xs
+
+-- what `stage` promises of its answer r and of what is left in the other buffer
+pub record Stages (p : Record) (j m w : ℕ) (input other : List ℕ) (r : Verdict) (after : List ℕ) : Type 0 where
+  pub answer : r ≡ stageVerdict p j m w input (length other)
+  pub cells : after ≡ left (stageVerdict p j m w input (length other)) (stageOf p j m w input) other
+
+-- what the work of a stage asks for
+pub record Workable (p : Record) (j m w : ℕ) (src : List ℕ) (room : ℕ) : Type 0 where
+  pub planned : isPlanned p ≡ true
+  pub known : j < p .count
+  pub modulus : Rows.Modulus m
+  pub base : w < m
+  pub long : length src ≡ p .half
+  pub wide : room ≡ p .half
+  pub cells : Under m (length src) src
+
+-- what a run or a chain of stages is lent: an accepted plan, a modulus, a base whose power h leaves 1, and h remainders
+pub record Lent (p : Record) (m w : ℕ) (xs : List ℕ) : Type 0 where
+  pub planned : isPlanned p ≡ true
+  pub modulus : 1 < m
+  pub base : w < m
+  pub circle : w ^ p .half % m ≡ 1
+  pub long : length xs ≡ p .half
+  pub cells : Under m (length xs) xs
+
+-- zs is what stage calls 0 to j - 1 make of xs, each lent what the one before wrote and another buffer of h cells with anything in it
+abbrev pub Chain : Record → (m w j : ℕ) → (xs zs : List ℕ) → Type 0
+Chain p m w zero xs zs = xs ≡ zs
+Chain p m w (suc j) xs zs =
+    (ys : List ℕ) × ((old : List ℕ) × ((r : Verdict) × (Chain p m w j xs ys × ((length old ≡ p .half) × Stages p j m w ys old r zs))))

@@ -1,0 +1,5 @@
+-- The laws that callers' proofs cite, by subject.
+pub mod Cells
+pub mod Strides
+pub mod Fill
+pub mod Plans

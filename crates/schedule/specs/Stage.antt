@@ -1,0 +1,111 @@
+-- A stage of the transform and a run of stages, with the arithmetic put in: one definition serves floats and remainders.
+-- h cells; r the stage's radix; s its stride, the product of the radices before it. A stage makes h / r iterations of r outputs each.
+-- Assumes nothing.
+use Prim.Native.Nat.{ℕ, zero, suc, _+_, _-_, _*_, _/_, _%_}
+use mathlib.Core.List.{List, [], _∷_}
+use lib.ListN.{getD, set}
+use Rattle.plan.specs.Counts.{radix, stride}
+
+-- ---- which turn stands where
+
+-- t of L parts of a circle
+pub record Part : Type 0 where
+  pub t : ℕ
+  pub L : ℕ
+
+-- the turn of twiddle q of iteration i, in a stage of radix r at stride s: its column times q, of s * r parts
+unfoldable pub twiddleTurn : (s r i q : ℕ) → Part
+twiddleTurn s r i q = record { t = i % s * q; L = s * r }
+
+-- the turn of cell q in output p of a kernel of radix r
+unfoldable pub kernelTurn : (p q r : ℕ) → Part
+kernelTurn p q r = record { t = p * q % r; L = r }
+
+-- ---- which cell is written where
+
+-- Output p of iteration i goes to cell `index s r i p`, so cell n is output `place s r n` of iteration `iteration s r n`.
+unfoldable pub index : (s r i p : ℕ) → ℕ
+index s r i p = i / s * (s * r) + i % s + p * s
+
+unfoldable pub iteration : (s r n : ℕ) → ℕ
+iteration s r n = n / (s * r) * s + n % s
+
+unfoldable pub place : (s r n : ℕ) → ℕ
+place s r n = n % (s * r) / s
+
+-- ---- a stage, with the arithmetic put in
+
+-- What a stage asks of the numbers in its cells.
+pub record Arith (A : Type 0) : Type 0 where
+  -- a cell past the end of the list, which no stage of a plan reads
+  pub blank : A
+  pub plus : A → A → A
+  -- a cell turned by a part of a circle
+  pub turned : Part → A → A
+  -- a cell times twiddle q of iteration i of stage j
+  pub twiddled : (j i q : ℕ) → A → A
+
+-- From the cells that an iteration reads, numbered from 0, to its outputs: for each radix.
+abbrev pub Kernel : Type 0 → Type 0
+Kernel A = (r : ℕ) → (ℕ → A) → ℕ → A
+
+-- f n, f (n + 1), ..: k cells
+unfoldable pub tabulate {ℓ} : {A : Type ℓ} → (k n : ℕ) → (ℕ → A) → List A
+tabulate zero n f = []
+tabulate (suc k) n f = f n ∷ tabulate k (suc n) f
+
+module _ {A : Type 0} where
+  -- the first stage has no twiddles
+  unfoldable pub twiddledIn : Arith A → (j i q : ℕ) → A → A
+  twiddledIn a zero i q x = x
+  twiddledIn a (suc j) i q x = a .twiddled (suc j) i q x
+
+  -- what iteration i of stage j reads of the cells c: cell i, and for q from 1 cell i + q * M, twiddled
+  unfoldable pub read : Arith A → (j M : ℕ) → (ℕ → A) → (i q : ℕ) → A
+  read a j M c i zero = c i
+  read a j M c i (suc q) = twiddledIn a j i (suc q) (c (i + suc q * M))
+
+  -- cell 0, then plus cell q turned, for q from 1 to the last argument
+  unfoldable pub total : Arith A → (r : ℕ) → (ℕ → A) → (p q : ℕ) → A
+  total a r x p zero = x 0
+  total a r x p (suc q) = a .plus (total a r x p q) (a .turned (kernelTurn p (suc q) r) (x (suc q)))
+
+  -- the plain sum is one kernel
+  unfoldable pub plain : Arith A → Kernel A
+  plain a r x p = total a r x p (r - 1)
+
+  -- output p of iteration i of stage j, from the cells c
+  unfoldable pub output : Kernel A → Arith A → (j M r : ℕ) → (ℕ → A) → (i p : ℕ) → A
+  output kernel a j M r c i p = kernel r (read a j M c i) p
+
+  -- the h cells that stage j makes of a list, by any kernel
+  unfoldable pub stageBy : Kernel A → Arith A → (j h s r : ℕ) → List A → List A
+  stageBy kernel a j h s r xs =
+      tabulate h 0 (λ n. output kernel a j (h / r) r (λ k. getD xs k (a .blank)) (iteration s r n) (place s r n))
+
+  -- stage j of the radices rs, by the plain sum
+  unfoldable pub stage : Arith A → (h : ℕ) → List ℕ → ℕ → List A → List A
+  stage a h rs j xs = stageBy (plain a) a j h (stride rs j) (radix rs j) xs
+
+  -- after the first j stages
+  unfoldable pub run : Arith A → (h : ℕ) → List ℕ → ℕ → List A → List A
+  run a h rs zero xs = xs
+  run a h rs (suc j) xs = stage a h rs j (run a h rs j xs)
+
+-- ---- the same stage, output by output
+
+module _ {A : Type 0} where
+  -- the first n outputs v of iteration i written to their cells
+  unfoldable pub putOutputs : (s r i : ℕ) → (ℕ → A) → List A → ℕ → List A
+  putOutputs s r i v ys zero = ys
+  putOutputs s r i v ys (suc p) = set (putOutputs s r i v ys p) (index s r i p) (v p)
+
+  -- the outputs of the first n blocks of column k
+  unfoldable pub putColumn : (s r k : ℕ) → (ℕ → ℕ → A) → List A → ℕ → List A
+  putColumn s r k v ys zero = ys
+  putColumn s r k v ys (suc b) = putOutputs s r (b * s + k) (v (b * s + k)) (putColumn s r k v ys b) r
+
+  -- the outputs of the first n columns, of B blocks each
+  unfoldable pub putColumns : (s r B : ℕ) → (ℕ → ℕ → A) → List A → ℕ → List A
+  putColumns s r B v ys zero = ys
+  putColumns s r B v ys (suc k) = putColumn s r k v (putColumns s r B v ys k) B
