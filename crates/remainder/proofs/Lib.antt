@@ -8,5 +8,7 @@ pub mod Shapes
 pub mod Iteration
 pub mod Columns
 pub mod Verdicts
+pub mod After
+pub mod Runs
 pub mod Theorems
 pub mod Unique

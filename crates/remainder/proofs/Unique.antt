@@ -5,8 +5,12 @@ use mathlib.Core.List.{List}
 use Rattle.refusal.specs.declared.Verdict.{Verdict}
 use Rattle.refusal.proofs.Unique.{agree}
 use Rattle.plan.specs.declared.Record.{Record}
-use Rattle.remainder.specs.Calls.{Stages}
+use Rattle.schedule.specs.Buffers.{Two}
+use Rattle.remainder.specs.Calls.{Stages, Runs}
 
 pub Stages-one : {p : Record} {j m w : ℕ} {input other : List ℕ} {r s : Verdict} {ys zs : List ℕ}
     → Stages p j m w input other r ys → Stages p j m w input other s zs → (r ≡ s) × (ys ≡ zs)
 Stages-one a b = (agree (a .answer) (b .answer), agree (a .cells) (b .cells))
+
+pub Runs-one : {p : Record} {m w : ℕ} {before : Two ℕ} {r s : Verdict} {b c : Two ℕ} → Runs p m w before r b → Runs p m w before s c → (r ≡ s) × (b ≡ c)
+Runs-one a b = (agree (a .answer) (b .answer), agree (a .cells) (b .cells))

@@ -12,6 +12,7 @@ use Rattle.refusal.specs.declared.Verdict.the-variants.{Accepted, Refused}
 use Rattle.plan.specs.Lists.{firstThat}
 use Rattle.plan.specs.Record.{isPlanned}
 use Rattle.plan.specs.declared.Record.{Record}
+use Rattle.schedule.specs.Buffers.{Two, driven}
 use Rattle.schedule.specs.Plans.{inUse}
 use Rattle.schedule.specs.Stage.{stage}
 use Rattle.remainder.specs.Residues.{residues}
@@ -39,6 +40,10 @@ lentVerdict h m w xs room = verdict (lentRows h m w xs room)
 unfoldable pub stageVerdict : Record → (j m w : ℕ) → List ℕ → (room : ℕ) → Verdict
 stageVerdict p j m w xs room = verdict (not (isPlanned p) ⇒ NotPlanned 0 ∷ not (ltb j (p .count)) ⇒ Stage ∷ lentRows (p .half) m w xs room)
 
+-- a run: refusal 5, then those
+unfoldable pub runVerdict : Record → (m w : ℕ) → List ℕ → (room : ℕ) → Verdict
+runVerdict p m w xs room = verdict (not (isPlanned p) ⇒ NotPlanned 0 ∷ lentRows (p .half) m w xs room)
+
 -- what an accepted call leaves in a buffer; a refused one leaves it as it is
 abbrev pub left {ℓ} : {A : Type ℓ} → Verdict → A → A → A
 left Accepted new old = new
@@ -47,6 +52,15 @@ left (Refused why) new old = old
 -- the schedule's stage j of a plan in remainders
 abbrev pub stageOf : Record → (j m w : ℕ) → List ℕ → List ℕ
 stageOf p j m w xs = stage (residues m w (p .half) (inUse p)) (p .half) (inUse p) j xs
+
+-- what a run leaves in its two buffers: what the stage calls, written alternately, leave there, a single radix copied back
+abbrev pub runOf : Record → (m w : ℕ) → Two ℕ → Two ℕ
+runOf p m w b = driven (λ j. stageOf p j m w) (p .count) b
+
+-- what `run` promises of its answer r and of what is left in its two buffers
+pub record Runs (p : Record) (m w : ℕ) (before : Two ℕ) (r : Verdict) (after : Two ℕ) : Type 0 where
+  pub answer : r ≡ runVerdict p m w (before .0) (length (before .1))
+  pub cells : after ≡ left (runVerdict p m w (before .0) (length (before .1))) (runOf p m w before) before
 
 -- what `stage` promises of its answer r and of what is left in the other buffer
 pub record Stages (p : Record) (j m w : ℕ) (input other : List ℕ) (r : Verdict) (after : List ℕ) : Type 0 where
@@ -71,6 +85,12 @@ pub record Lent (p : Record) (m w : ℕ) (xs : List ℕ) : Type 0 where
   pub circle : w ^ p .half % m ≡ 1
   pub long : length xs ≡ p .half
   pub cells : Under m (length xs) xs
+
+-- what the driver of a run asks for
+pub record Drivable (p : Record) (m w : ℕ) (xs : List ℕ) (room : ℕ) : Type 0 where
+  pub lent : Lent p m w xs
+  pub small : m < 4294967296
+  pub wide : room ≡ p .half
 
 -- zs is what stage calls 0 to j - 1 make of xs, each lent what the one before wrote and another buffer of h cells with anything in it
 abbrev pub Chain : Record → (m w j : ℕ) → (xs zs : List ℕ) → Type 0

@@ -3,3 +3,4 @@ pub mod Cells
 pub mod Strides
 pub mod Fill
 pub mod Plans
+pub mod Buffers

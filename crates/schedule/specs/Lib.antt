@@ -1,3 +1,4 @@
 -- The definitions that contracts cite.
 pub mod Stage
 pub mod Plans
+pub mod Buffers
