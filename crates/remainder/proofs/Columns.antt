@@ -7,7 +7,8 @@ use mathlib.Core.List.{List, [], _∷_}
 use lib.ListN.{length, getD}
 use Rattle.plan.specs.Counts.{radix, stride}
 use Rattle.plan.specs.declared.Record.{Record}
-use Rattle.plan.proofs.Counts.{plan-half}
+use Rattle.plan.specs.Lists.{isRadix}
+use Rattle.plan.proofs.Counts.{plan-half, plan-radix}
 use Rattle.schedule.specs.Plans.{inUse}
 use Rattle.schedule.specs.Stage.{plain, output, putColumns, stage}
 use Rattle.schedule.proofs.Cells.{by-radix, by-both}
@@ -74,8 +75,7 @@ module _ (p : Record) (j m w : ℕ) (src : List ℕ) (room : ℕ) (h : Workable 
         step = by-radix (p .half) _ (stride (inUse p) j) (radix (inUse p) j) in-blocks (use-stride-some p (h .planned) j (h .known)) (use-radix-some p (h .planned) j (h .known));
         blocks = rw (use-count p (h .planned) j (h .known)) (use-blocks p (h .planned) j (h .known));
         columns = use-stride-some p (h .planned) j (h .known);
-        some = use-radix-some p (h .planned) j (h .known);
-        eight = use-radix-few p (h .planned) j (h .known);
+        radix = ap isRadix (use-radix p (h .planned) j (h .known)) ∙ plan-radix p (h .planned) j (h .known);
         few = plan-half p (h .planned) .1;
       })
 

@@ -5,6 +5,7 @@ pub mod Transform
 pub mod Powers
 pub mod Rows
 pub mod Shapes
+pub mod Arms
 pub mod Iteration
 pub mod Columns
 pub mod Verdicts

@@ -8,6 +8,7 @@ use mathlib.Core.List.{List, [], _∷_}
 use lib.Dec.{ltb}
 use lib.ListN.{length, getD, set, length-set}
 use borrow.Author.Tests.{lt-ltb, ltb-true}
+use Rattle.plan.proofs.Products.{radix-least}
 use Rattle.remainder.specs.Rows.{eight, below, rowOf, twiddledRow, sumTo, storeTo, Under, Ready}
 use Rattle.remainder.proofs.Powers.{mul-mod, next-power}
 
@@ -59,7 +60,7 @@ scaled-first m v r x h l = sym (below-in r 0 (x * v ^ 0 % m) h ∙ ap (λ (n : �
 -- remainders stay remainders
 pub row-under : (m v i apart to s : ℕ) (turns src : List ℕ) (into r : ℕ) → Ready m v i apart to s turns src into r → Under m r (rowOf src i apart r)
 row-under m v i apart to s turns src into r h q l =
-    rw (eight-at (λ (n : ℕ). below r n (getD src (i + n * apart) 0)) q (omega (arith, h .eight)), below-in r q (getD src (i + q * apart) 0) l)
+    rw (eight-at (λ (n : ℕ). below r n (getD src (i + n * apart) 0)) q (omega (arith, radix-least r (h .radix))), below-in r q (getD src (i + q * apart) 0) l)
     (h .cells (i + q * apart) (h .reads q l))
 
 pub twiddled-under : (m v r : ℕ) (x : List ℕ) → 1 < m → r ≤ 8 → Under m r (twiddledRow m v r x)

@@ -1,10 +1,11 @@
 -- What the parts of a stage's code make: rows of eight cells, of which the first r are used. Assumes nothing.
 use Prim.Native.Nat.{ℕ, zero, suc, _+_, _*_, _%_, _^_, _<_, _≤_}
 use mathlib.Core.Path.{_≡_}
-use mathlib.Core.Bool.{cond}
+use mathlib.Core.Bool.{true, cond}
 use mathlib.Core.List.{List, [], _∷_}
 use lib.Dec.{ltb}
 use lib.ListN.{length, getD, set}
+use Rattle.plan.specs.Lists.{isRadix}
 
 -- f 0 to f 7
 abbrev pub eight : (ℕ → ℕ) → List ℕ
@@ -57,8 +58,7 @@ pub record Shape (n s r apart cells : ℕ) : Type 0 where
   pub step : apart ≡ n * s
   pub blocks : 0 < n
   pub columns : 0 < s
-  pub some : 0 < r
-  pub eight : r ≤ 8
+  pub radix : isRadix r ≡ true
   pub few : cells ≤ 4096
 
 -- the first r entries are remainders
@@ -67,8 +67,7 @@ Under m r x = (q : ℕ) → q < r → getD x q 0 < m
 
 -- what an iteration of radix r asks of its numbers: remainders, reads within src, writes within a list of `into` cells
 pub record Ready (m v i apart to s : ℕ) (turns src : List ℕ) (into r : ℕ) : Type 0 where
-  pub some : 0 < r
-  pub eight : r ≤ 8
+  pub radix : isRadix r ≡ true
   pub modulus : Modulus m
   pub power : v < m
   pub turning : Under m 8 turns

@@ -138,28 +138,7 @@ fn store(dst: &mut [u32], to: usize, s: usize, x: [u64; 8], turns: [u64; 8], r: 
     put(dst, to, s, x, turns, r, 7, m);
 }
 
-// One iteration of radix r: its cells read from i on, its outputs written from `to` on.
-fn iterate(
-    src: &[u32],
-    dst: &mut [u32],
-    i: usize,
-    to: usize,
-    s: usize,
-    apart: usize,
-    v: u64,
-    turns: [u64; 8],
-    r: usize,
-    m: u64,
-)
-    requires { ⌜ Ready m v i apart to s turns (now src) (length (now dst)) r ⌝ }
-    ensures { λ _. ⌜ now (dst .exit) ≡ stored m v i apart to s turns (now (src .entry)) (now (dst .entry)) r ⌝ }
-{
-    let x = row(src, i, apart, r);
-    let y = twiddled(x, v, r, m);
-    store(dst, to, s, y, turns, r, m);
-}
-
-// The same with the radix written out, so that the compiler sees it.
+// One iteration: its cells read from i on, its outputs written from `to` on, the radix written out so that the compiler sees it.
 fn one(
     src: &[u32],
     dst: &mut [u32],
@@ -175,14 +154,22 @@ fn one(
     requires { ⌜ Ready m v i apart to s turns (now src) (length (now dst)) r ⌝ }
     ensures { λ _. ⌜ now (dst .exit) ≡ stored m v i apart to s turns (now (src .entry)) (now (dst .entry)) r ⌝ }
 {
-    match r {
-        2 => iterate(src, dst, i, to, s, apart, v, turns, 2, m),
-        3 => iterate(src, dst, i, to, s, apart, v, turns, 3, m),
-        4 => iterate(src, dst, i, to, s, apart, v, turns, 4, m),
-        5 => iterate(src, dst, i, to, s, apart, v, turns, 5, m),
-        7 => iterate(src, dst, i, to, s, apart, v, turns, 7, m),
-        8 => iterate(src, dst, i, to, s, apart, v, turns, 8, m),
-        _ => iterate(src, dst, i, to, s, apart, v, turns, r, m),
+    if r < 4 {
+        if r == 2 {
+            store(dst, to, s, twiddled(row(src, i, apart, 2), v, 2, m), turns, 2, m);
+        } else {
+            store(dst, to, s, twiddled(row(src, i, apart, 3), v, 3, m), turns, 3, m);
+        }
+    } else if r < 6 {
+        if r == 4 {
+            store(dst, to, s, twiddled(row(src, i, apart, 4), v, 4, m), turns, 4, m);
+        } else {
+            store(dst, to, s, twiddled(row(src, i, apart, 5), v, 5, m), turns, 5, m);
+        }
+    } else if r == 7 {
+        store(dst, to, s, twiddled(row(src, i, apart, 7), v, 7, m), turns, 7, m);
+    } else {
+        store(dst, to, s, twiddled(row(src, i, apart, 8), v, 8, m), turns, 8, m);
     }
 }
 
