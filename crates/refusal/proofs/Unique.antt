@@ -1,7 +1,7 @@
 -- Two answers that meet a promise are equal. Assumes nothing.
 use Prim.Native.Nat.{ℕ}
 use mathlib.Core.Path.{_≡_, sym, _∙_}
-use Rattle.refusal.specs.Refusal.{Numbers, Places, NumbersIn, PlacesIn}
+use Rattle.refusal.specs.Refusal.{Numbers, Places, NumbersIn, PlacesIn, Settles}
 use Rattle.refusal.specs.declared.Refusal.{Refusal}
 use Rattle.refusal.specs.declared.Verdict.{Verdict}
 
@@ -20,3 +20,6 @@ NumbersIn-one p q = agree (p .answer) (q .answer)
 
 pub PlacesIn-one : {v : Verdict} {r s : ℕ} → PlacesIn v r → PlacesIn v s → r ≡ s
 PlacesIn-one p q = agree (p .answer) (q .answer)
+
+pub Settles-one : {A : Type 0} {v : Verdict} {made lent : A} {r s : Verdict} {x y : A} → Settles v made lent r x → Settles v made lent s y → (r ≡ s) × (x ≡ y)
+Settles-one p q = (agree (p .answer) (q .answer), agree (p .cells) (q .cells))

@@ -1,4 +1,4 @@
--- The number and the place of each refusal, and the verdict as the first test that fails. Assumes nothing.
+-- The number and the place of each refusal, the verdict as the first test that fails, and what a call leaves under it. Assumes nothing.
 use Prim.Native.Nat.{ℕ}
 use mathlib.Core.Path.{_≡_}
 use mathlib.Core.Bool.{Bool, true, false}
@@ -86,3 +86,13 @@ verdictBy false why rest = rest
 abbrev pub verdict : List Row → Verdict
 verdict [] = Accepted
 verdict (row ∷ rows) = verdictBy (row .given) (row .why) (verdict rows)
+
+-- what an accepted call makes, and what was lent where it is refused
+abbrev pub left {ℓ} : {A : Type ℓ} → Verdict → A → A → A
+left Accepted made lent = made
+left (Refused why) made lent = lent
+
+-- what a call with verdict v promises: its answer r is v, and afterwards stands what it makes, or what was lent if it is refused
+pub record Settles {A : Type 0} (v : Verdict) (made lent : A) (r : Verdict) (after : A) : Type 0 where
+  pub answer : r ≡ v
+  pub cells : after ≡ left v made lent

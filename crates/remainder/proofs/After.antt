@@ -17,7 +17,7 @@ use Rattle.schedule.proofs.Strides.{stride-drop}
 use Rattle.remainder.specs.Calls.{Lent}
 use Rattle.remainder.specs.Residues.{residues, cells, blockSum, Blocks}
 use Rattle.remainder.specs.Rows.{Under}
-use Rattle.remainder.proofs.Transform.{run-blocks}
+use Rattle.remainder.proofs.Blocks.{run-blocks}
 use Rattle.remainder.proofs.Columns.{all-under}
 
 -- block sums are remainders

@@ -17,7 +17,7 @@ use Rattle.schedule.proofs.Plans.{use-stride, use-radix, use-parts, use-count, 
 use Rattle.remainder.specs.Calls.{Workable, stageOf}
 use Rattle.remainder.specs.Residues.{residues, cells}
 use Rattle.remainder.specs.Rows.{Under, Shape, stepped, value}
-use Rattle.remainder.proofs.Transform.{first-stride}
+use Rattle.remainder.proofs.Blocks.{first-stride}
 use Rattle.remainder.proofs.Iteration.{pow-reduced, pow-times, value-output}
 
 -- a power of a reduced power

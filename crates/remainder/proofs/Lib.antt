@@ -1,7 +1,7 @@
 -- The laws that the proofs share, by subject, and the theorems; `Theorems` is the one to open first.
 pub mod Sums
 pub mod Step
-pub mod Transform
+pub mod Blocks
 pub mod Powers
 pub mod Rows
 pub mod Shapes
@@ -11,5 +11,6 @@ pub mod Columns
 pub mod Verdicts
 pub mod After
 pub mod Runs
+pub mod Parts
 pub mod Theorems
 pub mod Unique

@@ -11,16 +11,14 @@ use borrow.Author.Tests.{eq-eqb, ne-eqb, eqb-true}
 use Rattle.plan.specs.Counts.{radix, stride, resultIn}
 use Rattle.plan.specs.Record.{isPlanned}
 use Rattle.plan.specs.declared.Record.{Record}
-use Rattle.refusal.specs.declared.Refusal.{Refusal}
 use Rattle.refusal.specs.declared.Refusal.the-variants.{NotPlanned}
-use Rattle.refusal.specs.declared.Verdict.{Verdict}
-use Rattle.refusal.specs.declared.Verdict.the-variants.{Accepted, Refused}
-use Rattle.schedule.specs.Buffers.{Two, across, alternated, driven}
+use Rattle.refusal.specs.declared.Verdict.the-variants.{Refused}
+use Rattle.schedule.specs.Buffers.{Two, across, alternated, driven, heldIn}
 use Rattle.schedule.specs.Plans.{inUse}
 use Rattle.schedule.specs.Stage.{plain, stage}
 use Rattle.schedule.proofs.Cells.{length-stage}
-use Rattle.schedule.proofs.Buffers.{sourceBy, source-run, heldIn, held}
-use Rattle.remainder.specs.Calls.{Lent, Drivable, Workable, stageOf, runOf, runVerdict, lentVerdict, left, Runs}
+use Rattle.schedule.proofs.Buffers.{sourceBy, source-run, held}
+use Rattle.remainder.specs.Calls.{Lent, Drivable, Workable, stageOf, runOf, runVerdict, lentVerdict}
 use Rattle.remainder.specs.Residues.{residues}
 use Rattle.remainder.specs.Rows.{Under}
 use Rattle.remainder.proofs.After.{after, after-length, after-under}
@@ -109,13 +107,6 @@ module _ (p : Record) (m w : ℕ) (b : Two ℕ) where
   pub run-lent : isPlanned p ≡ true → lentVerdict (p .half) m w (b .0) (length (b .1)) ≡ runVerdict p m w (b .0) (length (b .1))
   unfolding runVerdict lentVerdict
   run-lent e = simp (e)
-
-  -- a refused run leaves both buffers as they are
-  pub run-refused : (why : Refusal) → Refused why ≡ runVerdict p m w (b .0) (length (b .1)) → Runs p m w b (Refused why) b
-  run-refused why e = record { answer = e; cells = ap (λ (v : Verdict). left v (runOf p m w b) b) e }
-
-  pub run-accepted : (d s : List ℕ) → Accepted ≡ runVerdict p m w (b .0) (length (b .1)) → d ≡ runOf p m w b .0 → s ≡ runOf p m w b .1 → Runs p m w b Accepted (d, s)
-  run-accepted d s e f g = record { answer = e; cells = (λ i. (f i, g i)) ∙ ap (λ (v : Verdict). left v (runOf p m w b) b) e }
 
 -- the result of a run is what the last stage made
 pub held-after : (p : Record) (m w : ℕ) (xs ys : List ℕ) (h : Lent p m w xs) → heldIn (resultIn (p .count)) (runOf p m w (xs, ys)) ≡ after p m w xs h (p .count)

@@ -7,7 +7,6 @@ use mathlib.Core.List.{List, [], _∷_}
 use lib.Dec.{eqb, ltb}
 use lib.ListN.{length}
 use borrow.Author.Tests.{lt-ltb, le-ltb, ltb-true, ltb-false, eqb-true, eq-eqb, ne-eqb, not-false}
-use Rattle.refusal.specs.declared.Refusal.{Refusal}
 use Rattle.refusal.specs.declared.Refusal.the-variants.{NotPlanned, Length, Modulus, Base, Remainder, Stage}
 use Rattle.refusal.specs.declared.Verdict.{Verdict}
 use Rattle.refusal.specs.declared.Verdict.the-variants.{Accepted, Refused}
@@ -15,7 +14,7 @@ use Rattle.refusal.proofs.Rows.{accepted-by}
 use Rattle.plan.specs.Lists.{firstThat}
 use Rattle.plan.specs.Record.{isPlanned}
 use Rattle.plan.specs.declared.Record.{Record}
-use Rattle.remainder.specs.Calls.{firstLarge, lentVerdict, stageVerdict, left, stageOf, Stages}
+use Rattle.remainder.specs.Calls.{firstLarge, lentVerdict, stageVerdict, Lent}
 use Rattle.remainder.specs.Rows.{Under}
 
 module _ (h m w : ℕ) (xs : List ℕ) (room : ℕ) where
@@ -54,14 +53,6 @@ module _ (h m w : ℕ) (xs : List ℕ) (room : ℕ) where
 
 -- ---- what an accepted call tells
 
-pub record Taken (h m w : ℕ) (xs : List ℕ) (room : ℕ) : Type 0 where
-  pub two : 2 ≤ m
-  pub base : w < m
-  pub circle : w ^ h % m ≡ 1
-  pub long : length xs ≡ h
-  pub wide : room ≡ h
-  pub cells : Under m (length xs) xs
-
 -- where none is too large, all are below m
 none-large : (m : ℕ) (xs : List ℕ) → length xs ≤ firstLarge m xs → Under m (length xs) xs
 unfolding firstLarge firstThat
@@ -81,23 +72,25 @@ either true true e = (refl, refl)
 either true false e = (refl, sym e)
 either false b e = (sym e, cc)
 
-pub taken : (h m w : ℕ) (xs : List ℕ) (room : ℕ) → lentVerdict h m w xs room ≡ Accepted → Taken h m w xs room
+pub taken : (p : Record) (m w : ℕ) (xs : List ℕ) (room : ℕ) → isPlanned p ≡ true → lentVerdict (p .half) m w xs room ≡ Accepted → Lent p m w xs × (room ≡ p .half)
 unfolding lentVerdict
-taken h m w xs room e =
+taken p m w xs room planned e =
+    let h = p .half in
     let a = accepted-by (ltb m 2) Modulus _ e in
     let b = accepted-by (not (ltb w m) || not (eqb (w ^ h % m) 1)) Base _ (a .1) in
     let c = accepted-by (not (eqb (length xs) h)) (Length 0) _ (b .1) in
     let d = accepted-by (not (eqb room h)) (Length 2) _ (c .1) in
     let f = accepted-by (ltb (firstLarge m xs) (length xs)) (Remainder (firstLarge m xs)) Accepted (d .1) in
     let g = either (ltb w m) (eqb (w ^ h % m) 1) (b .0) in
-    record {
-      two = ltb-false m 2 (a .0);
+    (record {
+      planned = planned;
+      modulus = ltb-false m 2 (a .0);
       base = ltb-true w m (g .0);
       circle = eqb-true (w ^ h % m) 1 (g .1);
       long = eqb-true (length xs) h (not-false _ (c .0));
-      wide = eqb-true room h (not-false _ (d .0));
       cells = none-large m xs (ltb-false (firstLarge m xs) (length xs) (f .0));
-    }
+    },
+    eqb-true room h (not-false _ (d .0)))
 
 -- ---- a stage
 
@@ -113,13 +106,6 @@ module _ (p : Record) (j m w : ℕ) (xs : List ℕ) where
   pub stage-lent : (room : ℕ) → isPlanned p ≡ true → j < p .count → lentVerdict (p .half) m w xs room ≡ stageVerdict p j m w xs room
   unfolding stageVerdict lentVerdict
   stage-lent room e l = simp (e, lt-ltb j (p .count) l)
-
-  -- a refused call leaves the other buffer as it is
-  pub stage-refused : (ys : List ℕ) (why : Refusal) → Refused why ≡ stageVerdict p j m w xs (length ys) → Stages p j m w xs ys (Refused why) ys
-  stage-refused ys why e = record { answer = e; cells = ap (λ (v : Verdict). left v (stageOf p j m w xs) ys) e }
-
-  pub stage-accepted : (ys zs : List ℕ) → Accepted ≡ stageVerdict p j m w xs (length ys) → zs ≡ stageOf p j m w xs → Stages p j m w xs ys Accepted zs
-  stage-accepted ys zs e d = record { answer = e; cells = d ∙ ap (λ (v : Verdict). left v (stageOf p j m w xs) ys) e }
 
 -- remainders are taken
 pub none-refused : (m : ℕ) (xs : List ℕ) → Under m (length xs) xs → length xs ≤ firstLarge m xs

@@ -5,14 +5,14 @@ use mathlib.Core.Bool.{true, not, _||_}
 use mathlib.Core.List.{List, [], _∷_}
 use lib.Dec.{eqb, ltb}
 use lib.ListN.{length}
-use Rattle.refusal.specs.Refusal.{Row, _⇒_, verdict}
+use Rattle.refusal.specs.Refusal.{Row, _⇒_, verdict, numberIn, placeIn, left, Settles}
 use Rattle.refusal.specs.declared.Refusal.the-variants.{NotPlanned, Length, Modulus, Base, Remainder, Stage}
 use Rattle.refusal.specs.declared.Verdict.{Verdict}
-use Rattle.refusal.specs.declared.Verdict.the-variants.{Accepted, Refused}
+use Rattle.plan.specs.Counts.{resultIn}
 use Rattle.plan.specs.Lists.{firstThat}
 use Rattle.plan.specs.Record.{isPlanned}
 use Rattle.plan.specs.declared.Record.{Record}
-use Rattle.schedule.specs.Buffers.{Two, driven}
+use Rattle.schedule.specs.Buffers.{Two, heldIn, driven}
 use Rattle.schedule.specs.Plans.{inUse}
 use Rattle.schedule.specs.Stage.{stage}
 use Rattle.remainder.specs.Residues.{residues}
@@ -33,6 +33,7 @@ lentRows h m w xs room =
     ∷ ltb (firstLarge m xs) (length xs) ⇒ Remainder (firstLarge m xs)
     ∷ []
 
+-- the verdict by these alone
 unfoldable pub lentVerdict : (h m w : ℕ) → List ℕ → (room : ℕ) → Verdict
 lentVerdict h m w xs room = verdict (lentRows h m w xs room)
 
@@ -44,11 +45,6 @@ stageVerdict p j m w xs room = verdict (not (isPlanned p) ⇒ NotPlanned 0 ∷ n
 unfoldable pub runVerdict : Record → (m w : ℕ) → List ℕ → (room : ℕ) → Verdict
 runVerdict p m w xs room = verdict (not (isPlanned p) ⇒ NotPlanned 0 ∷ lentRows (p .half) m w xs room)
 
--- what an accepted call leaves in a buffer; a refused one leaves it as it is
-abbrev pub left {ℓ} : {A : Type ℓ} → Verdict → A → A → A
-left Accepted new old = new
-left (Refused why) new old = old
-
 -- the schedule's stage j of a plan in remainders
 abbrev pub stageOf : Record → (j m w : ℕ) → List ℕ → List ℕ
 stageOf p j m w xs = stage (residues m w (p .half) (inUse p)) (p .half) (inUse p) j xs
@@ -57,15 +53,21 @@ stageOf p j m w xs = stage (residues m w (p .half) (inUse p)) (p .half) (inUse p
 abbrev pub runOf : Record → (m w : ℕ) → Two ℕ → Two ℕ
 runOf p m w b = driven (λ j. stageOf p j m w) (p .count) b
 
--- what `run` promises of its answer r and of what is left in its two buffers
-pub record Runs (p : Record) (m w : ℕ) (before : Two ℕ) (r : Verdict) (after : Two ℕ) : Type 0 where
-  pub answer : r ≡ runVerdict p m w (before .0) (length (before .1))
-  pub cells : after ≡ left (runVerdict p m w (before .0) (length (before .1))) (runOf p m w before) before
-
 -- what `stage` promises of its answer r and of what is left in the other buffer
-pub record Stages (p : Record) (j m w : ℕ) (input other : List ℕ) (r : Verdict) (after : List ℕ) : Type 0 where
-  pub answer : r ≡ stageVerdict p j m w input (length other)
-  pub cells : after ≡ left (stageVerdict p j m w input (length other)) (stageOf p j m w input) other
+abbrev pub Stages : Record → (j m w : ℕ) → (input other : List ℕ) → Verdict → List ℕ → Type 0
+Stages p j m w input other r after = Settles (stageVerdict p j m w input (length other)) (stageOf p j m w input) other r after
+
+-- what `run` promises of its answer r and of what is left in its two buffers
+abbrev pub Runs : Record → (m w : ℕ) → Two ℕ → Verdict → Two ℕ → Type 0
+Runs p m w before r after = Settles (runVerdict p m w (before .0) (length (before .1))) (runOf p m w before) before r after
+
+-- what `transform` promises of the number n and the place k it tells, of the part it hands back and of the address q of that part, when the
+-- two buffers are lent at the addresses `at`
+pub record Hands {P : Type 0} (p : Record) (m w : ℕ) (before : Two ℕ) (at : P × P) (n k : ℕ) (xs : List ℕ) (q : P) : Type 0 where
+  pub number : n ≡ numberIn (runVerdict p m w (before .0) (length (before .1)))
+  pub place : k ≡ placeIn (runVerdict p m w (before .0) (length (before .1)))
+  pub part : xs ≡ left (runVerdict p m w (before .0) (length (before .1))) (heldIn (resultIn (p .count)) (runOf p m w before)) []
+  pub address : q ≡ left (runVerdict p m w (before .0) (length (before .1))) (heldIn (resultIn (p .count)) at) (at .0)
 
 -- what the work of a stage asks for
 pub record Workable (p : Record) (j m w : ℕ) (src : List ℕ) (room : ℕ) : Type 0 where

@@ -2,8 +2,6 @@
 use mathlib.Core.Path.{_≡_, refl, ap, _∙_}
 use mathlib.Core.Bool.{Bool, true, false, not, _||_}
 use Rattle.plan.specs.Counts.{bufferBy}
-use Rattle.plan.specs.declared.Buffer.{Buffer}
-use Rattle.plan.specs.declared.Buffer.the-variants.{Data, Scratchpad}
 use mathlib.Core.List.{List}
 use Prim.Native.Nat.{ℕ, zero, suc, _+_, _%_, _<_, _≤_}
 use native.Mathlib.Omega.{arith}
@@ -13,7 +11,7 @@ use lib.ListN.{length, getD, set}
 use lib.Seq.{getD-set-same, getD-set-other, ext-getD}
 use borrow.Author.Tests.{eq-eqb, ne-eqb, eqb-true, eqb-false}
 use Rattle.schedule.specs.Stage.{Arith, stage, run}
-use Rattle.schedule.specs.Buffers.{Two, across, alternated, copiedBy}
+use Rattle.schedule.specs.Buffers.{Two, across, alternated, copiedBy, heldIn}
 
 -- the buffer that stage k reads
 abbrev pub sourceBy : {A : Type 0} → Bool → Two A → List A
@@ -43,11 +41,6 @@ source-run a h rs b (suc k) =
     ap (λ (t : Bool). sourceBy t (alternated (stage a h rs) (suc k) b)) (parity k)
     ∙ across-source (eqb (k % 2) 0) (stage a h rs k) (alternated (stage a h rs) k b)
     ∙ ap (stage a h rs k) (source-run a h rs b k)
-
--- the buffer of that name
-abbrev pub heldIn : {A : Type 0} → Buffer → Two A → List A
-heldIn Data b = b .0
-heldIn Scratchpad b = b .1
 
 -- a single stage, t, and an even number, u: the named buffer holds what the last stage made
 pub held : {A : Type 0} (t u : Bool) (b : Two A) → (t ≡ true → u ≡ false) → heldIn (bufferBy (t || u)) (copiedBy t b) ≡ sourceBy u b

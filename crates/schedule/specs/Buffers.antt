@@ -1,12 +1,19 @@
--- Stages in turn, from one buffer to the other and back. Assumes nothing.
+-- Stages in turn, from one buffer to the other and back, and which buffer is meant. Assumes nothing.
 use Prim.Native.Nat.{ℕ, zero, suc, _%_}
 use mathlib.Core.Bool.{Bool, true, false}
 use mathlib.Core.List.{List}
 use lib.Dec.{eqb}
+use Rattle.plan.specs.declared.Buffer.{Buffer}
+use Rattle.plan.specs.declared.Buffer.the-variants.{Data, Scratchpad}
 
 -- Data, then Scratchpad
 abbrev pub Two : Type 0 → Type 0
 Two A = List A × List A
+
+-- that of the buffer so named
+abbrev pub heldIn {ℓ} : {A : Type ℓ} → Buffer → A × A → A
+heldIn Data b = b .0
+heldIn Scratchpad b = b .1
 
 module _ {A : Type 0} where
   -- a stage g, from Data to Scratchpad or back

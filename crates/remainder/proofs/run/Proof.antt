@@ -3,8 +3,9 @@ use borrow.Author.Needs.{needs}
 use mathlib.Core.Path.{sym, _∙_}
 use lib.ListN.{length}
 use borrow.Author.Tests.{not-true, not-false}
+use Rattle.refusal.proofs.Rows.{settles-refused, settles-accepted}
 use Rattle.remainder.proofs.Verdicts.{taken}
-use Rattle.remainder.proofs.Runs.{run-unplanned, run-lent, run-refused, run-accepted}
+use Rattle.remainder.proofs.Runs.{run-unplanned, run-lent}
 use Rattle.remainder.proofs.run.Statement.{statement}
 use Rattle.remainder.proofs.run.Tie as tie
 
@@ -12,7 +13,7 @@ is-planned-requires : tie.Need-is-planned-requires
 is-planned-requires c κs = search needs
 
 returns : tie.Need-returns
-returns c = let a = c .before .before .before .before .args in run-refused (a .plan) (a .m) (a .w) (a .«data» .now, a .scratch .now) _ (run-unplanned (a .plan) (a .m) (a .w) (a .«data» .now, a .scratch .now) (sym (c .before .is-planned .ensures) ∙ not-true _ (c .if1 .taken)))
+returns c = let a = c .before .before .before .before .args in settles-refused _ _ _ _ (run-unplanned (a .plan) (a .m) (a .w) (a .«data» .now, a .scratch .now) (sym (c .before .is-planned .ensures) ∙ not-true _ (c .if1 .taken)))
 
 lent-requires : tie.Need-lent-requires
 lent-requires c κs = search needs
@@ -24,12 +25,8 @@ all-requires : tie.Need-all-requires
 all-requires c κs =
     let s = c .before .before .before .before .before .before .before .before .before .before in
     let a = s .args in
-    let t = taken (a .plan .half) (a .m) (a .w) (a .«data» .now) (length (a .scratch .now)) (sym (c .before .before .before .before .lent .ensures) ∙ c .before .before .enum-told .given .1) in
-    record {
-      lent = record { planned = (sym (c .before .before .before .before .before .before .before .is-planned .ensures) ∙ not-false _ (c .before .before .before .before .before .before .if1 .left)); modulus = t .two; base = t .base; circle = t .circle; long = t .long; cells = t .cells };
-      small = search needs;
-      wide = t .wide;
-    }
+    let t = taken (a .plan) (a .m) (a .w) (a .«data» .now) (length (a .scratch .now)) (sym (c .before .before .before .before .before .before .before .is-planned .ensures) ∙ not-false _ (c .before .before .before .before .before .before .if1 .left)) (sym (c .before .before .before .before .lent .ensures) ∙ c .before .before .enum-told .given .1) in
+    record { lent = t .0; small = search needs; wide = t .1 }
 
 enum-known-why : tie.Need-enum-known-why
 enum-known-why c = search needs
@@ -43,7 +40,7 @@ same-length-2 c = search needs
 returns-2 : tie.Need-returns-2
 returns-2 c =
     let a = c .before .before .before .before .before .before .before .before .before .before .before .before .before .before .before .args in
-    run-accepted (a .plan) (a .m) (a .w) (a .«data» .now, a .scratch .now) _ _ (sym (c .before .before .before .before .before .before .before .enum-told .given .1) ∙ c .before .before .before .before .before .before .before .before .before .lent .ensures ∙ run-lent (a .plan) (a .m) (a .w) (a .«data» .now, a .scratch .now) (sym (c .before .before .before .before .before .before .before .before .before .before .before .before .is-planned .ensures) ∙ not-false _ (c .before .before .before .before .before .before .before .before .before .before .before .if1 .left))) (c .before .before .before .before .all .ensures .0) (c .before .before .before .before .all .ensures .1)
+    settles-accepted _ _ _ _ (sym (c .before .before .before .before .before .before .before .enum-told .given .1) ∙ c .before .before .before .before .before .before .before .before .before .lent .ensures ∙ run-lent (a .plan) (a .m) (a .w) (a .«data» .now, a .scratch .now) (sym (c .before .before .before .before .before .before .before .before .before .before .before .before .is-planned .ensures) ∙ not-false _ (c .before .before .before .before .before .before .before .before .before .before .before .if1 .left))) (λ i. (c .before .before .before .before .all .ensures .0 i, c .before .before .before .before .all .ensures .1 i))
 
 same-length-3 : tie.Need-same-length-3
 same-length-3 c = search needs
@@ -51,7 +48,7 @@ same-length-3 c = search needs
 returns-3 : tie.Need-returns-3
 returns-3 c =
     let a = c .before .before .before .before .before .before .before .before .before .args in
-    run-refused (a .plan) (a .m) (a .w) (a .«data» .now, a .scratch .now) _ (sym (c .before .why .given .1) ∙ c .before .before .before .lent .ensures ∙ run-lent (a .plan) (a .m) (a .w) (a .«data» .now, a .scratch .now) (sym (c .before .before .before .before .before .before .is-planned .ensures) ∙ not-false _ (c .before .before .before .before .before .if1 .left)))
+    settles-refused _ _ _ _ (sym (c .before .why .given .1) ∙ c .before .before .before .lent .ensures ∙ run-lent (a .plan) (a .m) (a .w) (a .«data» .now, a .scratch .now) (sym (c .before .before .before .before .before .before .is-planned .ensures) ∙ not-false _ (c .before .before .before .before .before .if1 .left)))
 
 pub run-spec : {M : Type 1} → statement M
 run-spec =

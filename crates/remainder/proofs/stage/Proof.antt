@@ -3,7 +3,8 @@ use borrow.Author.Needs.{needs}
 use mathlib.Core.Path.{sym, _∙_}
 use lib.ListN.{length}
 use borrow.Author.Tests.{not-true, not-false}
-use Rattle.remainder.proofs.Verdicts.{taken, stage-refused, stage-accepted, stage-unplanned, stage-unknown, stage-lent}
+use Rattle.refusal.proofs.Rows.{settles-refused, settles-accepted}
+use Rattle.remainder.proofs.Verdicts.{taken, stage-unplanned, stage-unknown, stage-lent}
 use Rattle.remainder.proofs.stage.Statement.{statement}
 use Rattle.remainder.proofs.stage.Tie as tie
 
@@ -11,10 +12,10 @@ is-planned-requires : tie.Need-is-planned-requires
 is-planned-requires c κs = search needs
 
 returns : tie.Need-returns
-returns c = let a = c .before .before .before .before .args in stage-refused (a .plan) (a .number) (a .m) (a .w) (a .input .now) (a .other .now) _ (stage-unplanned (a .plan) (a .number) (a .m) (a .w) (a .input .now) (length (a .other .now)) (sym (c .before .is-planned .ensures) ∙ not-true _ (c .if1 .taken)))
+returns c = let a = c .before .before .before .before .args in settles-refused _ _ _ _ (stage-unplanned (a .plan) (a .number) (a .m) (a .w) (a .input .now) (length (a .other .now)) (sym (c .before .is-planned .ensures) ∙ not-true _ (c .if1 .taken)))
 
 returns-2 : tie.Need-returns-2
-returns-2 c = let a = c .before .before .before .before .before .before .args in stage-refused (a .plan) (a .number) (a .m) (a .w) (a .input .now) (a .other .now) _ (stage-unknown (a .plan) (a .number) (a .m) (a .w) (a .input .now) (length (a .other .now)) (sym (c .before .before .before .is-planned .ensures) ∙ not-false _ (c .before .before .if1 .left)) (c .if2 .taken))
+returns-2 c = let a = c .before .before .before .before .before .before .args in settles-refused _ _ _ _ (stage-unknown (a .plan) (a .number) (a .m) (a .w) (a .input .now) (length (a .other .now)) (sym (c .before .before .before .is-planned .ensures) ∙ not-false _ (c .before .before .if1 .left)) (c .if2 .taken))
 
 lent-requires : tie.Need-lent-requires
 lent-requires c κs = search needs
@@ -26,15 +27,15 @@ work-requires : tie.Need-work-requires
 work-requires c κs =
     let s = c .before .before .before .before .before .before .before .before .before .before in
     let a = s .args in
-    let t = taken (a .plan .half) (a .m) (a .w) (a .input .now) (length (a .other .now)) (sym (c .before .before .before .lent .ensures) ∙ c .before .enum-told .given .1) in
+    let t = taken (a .plan) (a .m) (a .w) (a .input .now) (length (a .other .now)) (sym (c .before .before .before .before .before .before .before .is-planned .ensures) ∙ not-false _ (c .before .before .before .before .before .before .if1 .left)) (sym (c .before .before .before .lent .ensures) ∙ c .before .enum-told .given .1) in
     record {
-      planned = (sym (c .before .before .before .before .before .before .before .is-planned .ensures) ∙ not-false _ (c .before .before .before .before .before .before .if1 .left));
+      planned = t .0 .planned;
       known = c .before .before .before .before .if2 .left;
-      modulus = record { two = t .two; small = search needs };
-      base = t .base;
-      long = t .long;
-      wide = t .wide;
-      cells = t .cells;
+      modulus = record { two = t .0 .modulus; small = search needs };
+      base = t .0 .base;
+      long = t .0 .long;
+      wide = t .1;
+      cells = t .0 .cells;
     }
 
 enum-known-why : tie.Need-enum-known-why
@@ -46,12 +47,12 @@ same-length c = search needs
 returns-3 : tie.Need-returns-3
 returns-3 c =
     let a = c .before .before .before .before .before .before .before .before .before .before .before .before .before .args in
-    stage-accepted (a .plan) (a .number) (a .m) (a .w) (a .input .now) (a .other .now) _ (sym (c .before .before .before .before .enum-told .given .1) ∙ c .before .before .before .before .before .before .lent .ensures ∙ stage-lent (a .plan) (a .number) (a .m) (a .w) (a .input .now) (length (a .other .now)) (sym (c .before .before .before .before .before .before .before .before .before .before .is-planned .ensures) ∙ not-false _ (c .before .before .before .before .before .before .before .before .before .if1 .left)) (c .before .before .before .before .before .before .before .if2 .left)) (c .before .before .work .ensures)
+    settles-accepted _ _ _ _ (sym (c .before .before .before .before .enum-told .given .1) ∙ c .before .before .before .before .before .before .lent .ensures ∙ stage-lent (a .plan) (a .number) (a .m) (a .w) (a .input .now) (length (a .other .now)) (sym (c .before .before .before .before .before .before .before .before .before .before .is-planned .ensures) ∙ not-false _ (c .before .before .before .before .before .before .before .before .before .if1 .left)) (c .before .before .before .before .before .before .before .if2 .left)) (c .before .before .work .ensures)
 
 returns-4 : tie.Need-returns-4
 returns-4 c =
     let a = c .before .before .before .before .before .before .before .before .before .before .args in
-    stage-refused (a .plan) (a .number) (a .m) (a .w) (a .input .now) (a .other .now) _ (sym (c .before .why .given .1) ∙ c .before .before .before .lent .ensures ∙ stage-lent (a .plan) (a .number) (a .m) (a .w) (a .input .now) (length (a .other .now)) (sym (c .before .before .before .before .before .before .before .is-planned .ensures) ∙ not-false _ (c .before .before .before .before .before .before .if1 .left)) (c .before .before .before .before .if2 .left))
+    settles-refused _ _ _ _ (sym (c .before .why .given .1) ∙ c .before .before .before .lent .ensures ∙ stage-lent (a .plan) (a .number) (a .m) (a .w) (a .input .now) (length (a .other .now)) (sym (c .before .before .before .before .before .before .before .is-planned .ensures) ∙ not-false _ (c .before .before .before .before .before .before .if1 .left)) (c .before .before .before .before .if2 .left))
 
 pub stage-spec : {M : Type 1} → statement M
 stage-spec =
