@@ -14,3 +14,4 @@ pub mod Runs
 pub mod Parts
 pub mod Theorems
 pub mod Unique
+pub mod ShutOut
