@@ -1,10 +1,10 @@
-/* ladlespindle.h: planning of spectra for a C host.
+/* ladlespindle.h: planning of spectra, and their stages in remainders, for a C host.
  *
  * Every function takes whatever it is lent, ends, and allocates nothing. A list is bytes, one radix each: 2, 3, 4, 5,
  * 7 or 8. Its product is the length n, even and at most 8,192.
  *
  * Lengths are in elements. NULL with length 0 is an empty list. Lists that are only read may overlap each other; a
- * buffer that a call writes may overlap nothing else that is lent to it. No function here writes what it is lent.
+ * buffer that a call writes may overlap nothing else that is lent to it. What a refused call was lent is as it was.
  *
  * To link (x86-64 Linux, any C library): `rt staticlib ladlespindle` proves the functions and writes
  * target/staticlib/libladlespindle.a, which wants nothing but memcpy and memset:
@@ -66,6 +66,19 @@ typedef struct {
     ladlespindle_radices out_list;
 } ladlespindle_scaling;
 
+/* Why a call is refused; 0 and 0 for one that is accepted. */
+typedef struct {
+    uint32_t number;
+    size_t place;
+} ladlespindle_answer;
+
+/* The same of a run, with the buffer that holds its result: 0 for Data, 1 for Scratchpad, 0 on a refusal. */
+typedef struct {
+    uint32_t number;
+    size_t place;
+    uint32_t buffer;
+} ladlespindle_ran;
+
 /* The plan of a list.
  * On a refusal every number of it is 0. */
 ladlespindle_record ladlespindle_plan(const uint8_t *list, size_t length);
@@ -122,6 +135,19 @@ uint32_t ladlespindle_accepts(ladlespindle_record plan);
  * Refused with 2 or 3: places run on from the in-list to the out-list, and a scaled out-product that is too large has
  * the joined length for its place; every other number is then 0. */
 ladlespindle_scaling ladlespindle_scale(const uint8_t *in_list, size_t in_length, const uint8_t *out_list, size_t out_length);
+
+/* In remainders modulo m, from 2 to 4,294,967,295, a base w below m whose power `half` leaves 1 stands for one part of a
+ * circle of `half` parts. Both functions lend two buffers of `half` numbers, below m where they are read. They refuse, in
+ * this order, with 5, 15 (a stage only), 11, 12, 8 (place 0: input or data; 2: other or scratch) and 13 (place: the index).
+ *
+ * Stage `number` of a plan, counted from 0, written to the other buffer. */
+ladlespindle_answer ladlespindle_remainder_stage(ladlespindle_record plan, size_t number, uint32_t m, uint32_t w, const uint32_t *input,
+                                                 size_t input_length, uint32_t *other, size_t other_length);
+
+/* All stages of a plan, written alternately from data to scratch and back, a single one copied back to data. Cell k of the
+ * buffer that the answer names then holds the remainder of the sum of x(j) * w^(j * k), x being what data held. */
+ladlespindle_ran ladlespindle_remainder_run(ladlespindle_record plan, uint32_t m, uint32_t w, uint32_t *data, size_t data_length,
+                                            uint32_t *scratch, size_t scratch_length);
 
 #ifdef __cplusplus
 }

@@ -1,9 +1,15 @@
-// The functions that a host written in C links: planning, its refusals, counts and scaling, on lists of radices.
+// The functions that a host written in C links: planning, its refusals, counts and scaling, on lists of radices; and the stages in
+// remainders, on a plan and buffers of whole numbers.
 use plan::Radices;
 use plan::Record;
+use plan::inner::stages::result_in;
+use refusal::Verdict;
 ghost use mathlib.Core.Path.{_≡_};
 ghost use lib.ListN.{getD};
 ghost use Rattle.ladlespindle.specs.Exports.{GivesPlan, GivesNumber, GivesPlace, GivesLength, GivesHalf, GivesStages, GivesMerges, GivesRadix, GivesLetter, GivesStageTwiddles, GivesEndTwiddles, GivesResult, GivesAcceptance, GivesScaling};
+ghost use Rattle.refusal.specs.Refusal.{left};
+ghost use Rattle.plan.specs.Counts.{resultIn, bufferNumber};
+ghost use Rattle.ladlespindle.specs.Remainders.{GivesRemainderStage, GivesRemainderRun};
 
 // What scaling answers, with the refusal as two numbers.
 #[repr(C)]
@@ -15,6 +21,21 @@ pub struct Scaling {
     pub out_product: usize,
     pub in_list: Radices,
     pub out_list: Radices,
+}
+
+// Why a call is refused, as two numbers; 0 and 0 for one that is accepted.
+#[repr(C)]
+pub struct Answer {
+    pub number: u32,
+    pub place: usize,
+}
+
+// The same of a run, with the buffer that holds the result: 0 for Data and on a refusal, 1 for Scratchpad.
+#[repr(C)]
+pub struct Ran {
+    pub number: u32,
+    pub place: usize,
+    pub buffer: u32,
 }
 
 // The plan of a list, every number 0 on a refusal.
@@ -145,6 +166,54 @@ pub extern "C" fn ladlespindle_scale(in_list: &[u8], out_list: &[u8]) -> Scaling
         out_product: scaled.out_product,
         in_list: grown_in,
         out_list: grown_out,
+    }
+}
+
+// Stage `number` of a plan in remainders modulo m, written to the other buffer.
+#[no_mangle]
+pub extern "C" fn ladlespindle_remainder_stage(
+    plan: Record,
+    number: usize,
+    m: u32,
+    w: u32,
+    input: &[u32],
+    other: &mut [u32],
+) -> Answer
+    ensures { λ r. ⌜ GivesRemainderStage plan number m w (now (input .entry)) (now (other .entry)) r (now (other .exit)) ⌝ }
+{
+    let verdict = remainder::stage(plan, number, m, w, input, other);
+    Answer {
+        number: verdict.number(),
+        place: verdict.place(),
+    }
+}
+
+// A run of a plan in remainders modulo m, and the buffer that holds its result.
+#[no_mangle]
+pub extern "C" fn ladlespindle_remainder_run(
+    plan: Record,
+    m: u32,
+    w: u32,
+    data: &mut [u32],
+    scratch: &mut [u32],
+) -> Ran
+    ensures { λ r. ⌜ GivesRemainderRun plan m w (now («data» .entry), now (scratch .entry)) r (now («data» .exit), now (scratch .exit)) ⌝ }
+{
+    let verdict = remainder::run(plan, m, w, data, scratch);
+    Ran {
+        number: verdict.number(),
+        place: verdict.place(),
+        buffer: holder(verdict, plan.count),
+    }
+}
+
+// The number of the buffer with the result of a run of so many stages, 0 on a refusal.
+fn holder(verdict: Verdict, count: usize) -> u32
+    ensures { λ r. ⌜ r ≡ left verdict (bufferNumber (resultIn count)) 0 ⌝ }
+{
+    match verdict {
+        Verdict::Accepted => result_in(count).number(),
+        Verdict::Refused(_) => 0,
     }
 }
 

@@ -8,8 +8,8 @@ use mathlib.Core.Logic.{inl, inr}
 use lib.ListN.{length}
 use Rattle.plan.specs.Lists.{isRadix}
 use Rattle.plan.proofs.Products.{Radix, radix-is, radix-least}
-use Rattle.remainder.specs.Rows.{rowOf, twiddledRow, storeTo, stored, Modulus, Under, Ready}
-use Rattle.remainder.proofs.Rows.{row-under, twiddled-under}
+use Rattle.remainder.specs.Rows.{rowOf, twiddledRow, storeFrom, stored, Modulus, Under, Storable, Ready}
+use Rattle.remainder.proofs.Rows.{row-under, twiddled-under, store-on, store-all}
 
 -- below 4 and not 2
 pub is-three : (r : ℕ) → isRadix r ≡ true → r < 4 → (r ≡ 2 → ⊥) → r ≡ 3
@@ -38,12 +38,35 @@ module _ (m v i apart to s : ℕ) (turns src : List ℕ) (into r : ℕ) (h : Rea
   twiddled-ready x f =
       (omega (arith, radix-least k (same .radix)), (same .power, (same .modulus, subst (Under m k) (sym f) (row-under m v i apart to s turns src into k same))))
 
-  pub store-ready : (x y : List ℕ) → y ≡ twiddledRow m v k x
-      → (0 < k) × ((k ≤ 8) × (Modulus m × (Under m k y × (Under m 8 turns × (((p : ℕ) → p < k → to + p * s < into) × (s ≤ 4096))))))
-  store-ready x y f =
+  pub four-ready : (x y : List ℕ) → y ≡ twiddledRow m v k x → (n : ℕ) → n ≡ into → Storable m k s to y turns n
+  four-ready x y f n g =
       let few : k ≤ 8 = radix-least k (same .radix) .1 in
-      (omega (arith, radix-least k (same .radix)), (few, (same .modulus, (subst (Under m k) (sym f) (twiddled-under m v k x (same .modulus .two) few), (same .turning, (same .writes, same .long))))))
+      rw g
+      (record {
+        some = omega (arith, radix-least k (same .radix));
+        eight = few;
+        modulus = same .modulus;
+        cells = subst (Under m k) (sym f) (twiddled-under m v k x (same .modulus .two) few);
+        turning = same .turning;
+        writes = same .writes;
+        long = same .long;
+      })
 
-  pub arm-stored : (x y dst out : List ℕ) → x ≡ rowOf src i apart k → y ≡ twiddledRow m v k x → out ≡ storeTo m k s to y turns dst 8 → out ≡ stored m v i apart to s turns src dst r
-  arm-stored x y dst out f g d =
-      d ∙ ap (λ (z : List ℕ). storeTo m k s to z turns dst 8) (g ∙ ap (twiddledRow m v k) f) ∙ ap (stored m v i apart to s turns src dst) (sym e)
+  arm-stored : (x y dst out : List ℕ) (n : ℕ) → k ≤ n → x ≡ rowOf src i apart k → y ≡ twiddledRow m v k x → out ≡ storeFrom m k s to y turns dst 0 n
+      → out ≡ stored m v i apart to s turns src dst r
+  arm-stored x y dst out n l f g d =
+      d
+      ∙ store-all m k s to y turns dst n l
+      ∙ ap (λ (z : List ℕ). storeFrom m k s to z turns dst 0 k) (g ∙ ap (twiddledRow m v k) f)
+      ∙ ap (stored m v i apart to s turns src dst) (sym e)
+
+  -- four outputs, or twice four
+  pub few-stored : (x y dst out : List ℕ) → k ≤ 4 → x ≡ rowOf src i apart k → y ≡ twiddledRow m v k x → out ≡ storeFrom m k s to y turns dst 0 4
+      → out ≡ stored m v i apart to s turns src dst r
+  few-stored x y dst out = arm-stored x y dst out 4
+
+  pub many-stored : (x y dst half out : List ℕ) → x ≡ rowOf src i apart k → y ≡ twiddledRow m v k x → half ≡ storeFrom m k s to y turns dst 0 4
+      → out ≡ storeFrom m k s to y turns half 4 4 → out ≡ stored m v i apart to s turns src dst r
+  many-stored x y dst half out f g d o =
+      arm-stored x y dst out 8 (radix-least k (same .radix) .1) f g
+      (o ∙ ap (λ (z : List ℕ). storeFrom m k s to y turns z 4 4) d ∙ store-on m k s to y turns dst 4 4)

@@ -1,6 +1,6 @@
 -- What an iteration of the code writes is what the schedule states. Assumes nothing.
 use Prim.Native.Nat.{ℕ, zero, suc, _+_, _-_, _*_, _/_, _%_, _^_, _<_, _≤_}
-use native.Mathlib.Nat.{add-mod, mod-mod, mul-zero, mul-comm, add-zero, pow-zero, pow-suc, mod-eq-of-lt}
+use native.Mathlib.Nat.{le-refl, zero-add, add-mod, mod-mod, mul-zero, mul-comm, add-zero, pow-zero, pow-suc, mod-eq-of-lt}
 use native.Mathlib.Numerals.{add-one}
 use native.Mathlib.Omega.{arith}
 use mathlib.Core.Path.{_≡_, refl, sym, ap, ap₂, _∙_}
@@ -13,7 +13,7 @@ use Rattle.plan.specs.Counts.{radix, stride}
 use Rattle.schedule.specs.Stage.{twiddleTurn, kernelTurn, read, total, plain, output, putOutputs, putColumn}
 use Rattle.schedule.proofs.Cells.{index-block}
 use Rattle.remainder.specs.Residues.{turn, residues, cells}
-use Rattle.remainder.specs.Rows.{below, rowOf, twiddledRow, sumTo, storeTo, stored, value, stepped}
+use Rattle.remainder.specs.Rows.{below, rowOf, twiddledRow, sumTo, storeFrom, stored, value, stepped}
 use Rattle.remainder.proofs.Sums.{mod-mul}
 use Rattle.remainder.proofs.Powers.{mul-mod}
 use Rattle.remainder.proofs.Rows.{eight-at, below-in, turn-lt}
@@ -49,7 +49,7 @@ term-reduced : (m s x y : ℕ) → (s + x * (y % m)) % m ≡ (s + x * y % m) % m
 term-reduced m s x y =
     add-mod s (x * (y % m)) m ∙ ap (λ (n : ℕ). (s % m + n) % m) (mul-mod x y m ∙ sym (mod-mod (x * y) m)) ∙ sym (add-mod s (x * y % m) m)
 
--- ---- sums and stores stop at the radix
+-- ---- sums stop at the radix
 
 sum-stop : (m r p : ℕ) (x turns : List ℕ) (n : ℕ) → r ≤ suc n → (k : ℕ) → sumTo m r p x turns (n + k) ≡ sumTo m r p x turns n
 unfolding sumTo
@@ -59,27 +59,14 @@ sum-stop m r p x turns n l (suc k) = ap (sumTo m r p x turns) {x = n + suc k} {y
     last : sumTo m r p x turns (suc (n + k)) ≡ sumTo m r p x turns (n + k)
     last = simp (le-ltb (suc (n + k)) r (omega arith))
 
-store-stop : (m r s to : ℕ) (x turns dst : List ℕ) (k : ℕ) → storeTo m r s to x turns dst (r + k) ≡ storeTo m r s to x turns dst r
-unfolding storeTo
-store-stop m r s to x turns dst zero = ap (storeTo m r s to x turns dst) (add-zero r)
-store-stop m r s to x turns dst (suc k) = ap (storeTo m r s to x turns dst) {x = r + suc k} {y = suc (r + k)} (omega arith) ∙ last ∙ store-stop m r s to x turns dst k
-  where
-    last : storeTo m r s to x turns dst (suc (r + k)) ≡ storeTo m r s to x turns dst (r + k)
-    last = simp (le-ltb (r + k) r (omega arith))
-
 -- ---- where the outputs go
 
 module _ (m r s b k : ℕ) (lk : k < s) (x turns : List ℕ) (f : ℕ → ℕ) (same : (p : ℕ) → sumTo m r p x turns 7 ≡ f p) (dst : List ℕ) where
-  store-up : (n : ℕ) → n ≤ r → storeTo m r s (b * (s * r) + k) x turns dst n ≡ putOutputs s r (b * s + k) f dst n
-  unfolding storeTo putOutputs
-  store-up zero l = refl
-  store-up (suc n) l = simp (lt-ltb n r l) (rw (store-up n (omega arith), same n, index-block s r b k n lk))
-
   -- the outputs of block b and column k
-  pub store-outputs : r ≤ 8 → storeTo m r s (b * (s * r) + k) x turns dst 8 ≡ putOutputs s r (b * s + k) f dst r
-  store-outputs l =
-      ap (storeTo m r s (b * (s * r) + k) x turns dst) {x = 8} {y = r + (8 - r)} (omega arith) ∙ store-stop m r s (b * (s * r) + k) x turns dst (8 - r)
-      ∙ store-up r (omega arith)
+  pub store-outputs : (n : ℕ) → n ≤ r → storeFrom m r s (b * (s * r) + k) x turns dst 0 n ≡ putOutputs s r (b * s + k) f dst n
+  unfolding storeFrom putOutputs
+  store-outputs zero l = refl
+  store-outputs (suc n) l = simp (zero-add, lt-ltb n r l) (rw (store-outputs n (omega arith), same n, index-block s r b k n lk))
 
 -- no block of column k
 pub column-none : (s r k : ℕ) (f : ℕ → ℕ → ℕ) (ys : List ℕ) → ys ≡ putColumn s r k f ys 0
@@ -87,14 +74,14 @@ unfolding putColumn
 column-none s r k f ys = refl
 
 -- one block more of column k
-pub column-next : (m r s b k apart v : ℕ) (turns src ys dst out : List ℕ) (i to : ℕ) → k < s → r ≤ 8 → i ≡ b * s + k → to ≡ b * (s * r) + k
+pub column-next : (m r s b k apart v : ℕ) (turns src ys dst out : List ℕ) (i to : ℕ) → k < s → i ≡ b * s + k → to ≡ b * (s * r) + k
     → dst ≡ putColumn s r k (value m r apart v src turns) ys b → out ≡ stored m v i apart to s turns src dst r
     → out ≡ putColumn s r k (value m r apart v src turns) ys (b + 1)
 unfolding putColumn value
-column-next m r s b k apart v turns src ys dst out i to lk few ei eo ed e =
+column-next m r s b k apart v turns src ys dst out i to lk ei eo ed e =
     e
     ∙ ap₂ (λ (x y : ℕ). stored m v x apart y s turns src dst r) ei eo
-    ∙ store-outputs m r s b k lk (twiddledRow m v r (rowOf src (b * s + k) apart r)) turns (value m r apart v src turns (b * s + k)) (λ p. refl) dst few
+    ∙ store-outputs m r s b k lk (twiddledRow m v r (rowOf src (b * s + k) apart r)) turns (value m r apart v src turns (b * s + k)) (λ p. refl) dst r (le-refl r)
     ∙ ap (λ (zs : List ℕ). putOutputs s r (b * s + k) (value m r apart v src turns (b * s + k)) zs r) ed
     ∙ ap (putColumn s r k (value m r apart v src turns) ys) (sym (add-one b))
 

@@ -49,10 +49,10 @@ module _ (p : Record) (m w : ℕ) (b : Two ℕ) where
             number = en ∙ ap numberIn (s .answer);
             place = ek ∙ ap placeIn (s .answer);
             part =
-              ez ∙ ap (λ (x : Buffer). take (p .half) (heldIn x c)) f
-              ∙ ap (λ (d : Two ℕ). take (p .half) (heldIn (resultIn (p .count)) d)) (settled _ _ _ _ _ s v)
-              ∙ take-all (p .half) held (omega (arith, long))
-              ∙ ap (λ (u : Verdict). left u held []) (sym v);
+                ez ∙ ap (λ (x : Buffer). take (p .half) (heldIn x c)) f
+                ∙ ap (λ (d : Two ℕ). take (p .half) (heldIn (resultIn (p .count)) d)) (settled _ _ _ _ _ s v)
+                ∙ take-all (p .half) held (omega (arith, long))
+                ∙ ap (λ (u : Verdict). left u held []) (sym v);
             address = eq ∙ ap (λ (x : Buffer). heldIn x at) f ∙ ap (λ (u : Verdict). left u (heldIn (resultIn (p .count)) at) (at .0)) (sym v);
           }
 

@@ -1,15 +1,15 @@
 -- Laws of rows of eight cells: what stands where, sums term by term, and the outputs in their cells. Assumes nothing.
-use Prim.Native.Nat.{ℕ, zero, suc, _+_, _*_, _%_, _^_, _<_, _≤_}
-use native.Mathlib.Nat.{mod-lt, mod-eq-of-lt, pow-zero, pow-suc, one-mul, mul-one, mul-le-mul}
+use Prim.Native.Nat.{ℕ, zero, suc, _+_, _-_, _*_, _%_, _^_, _<_, _≤_}
+use native.Mathlib.Nat.{add-zero, zero-add, mod-lt, mod-eq-of-lt, pow-zero, pow-suc, one-mul, mul-one, mul-le-mul}
 use native.Mathlib.Omega.{arith}
 use mathlib.Core.Path.{_≡_, refl, sym, ap, _∙_}
 use mathlib.Core.Bool.{Bool, true, false, cond}
 use mathlib.Core.List.{List, [], _∷_}
 use lib.Dec.{ltb}
-use lib.ListN.{length, getD, set, length-set}
-use borrow.Author.Tests.{lt-ltb, ltb-true}
+use lib.ListN.{length, getD, set}
+use borrow.Author.Tests.{lt-ltb, le-ltb, ltb-true}
 use Rattle.plan.proofs.Products.{radix-least}
-use Rattle.remainder.specs.Rows.{eight, below, rowOf, twiddledRow, sumTo, storeTo, Under, Ready}
+use Rattle.remainder.specs.Rows.{eight, below, rowOf, twiddledRow, sumTo, storeFrom, Under, Ready}
 use Rattle.remainder.proofs.Powers.{mul-mod, next-power}
 
 -- ---- entries
@@ -89,23 +89,34 @@ small-product p q h l = mul-le-mul {n₂ = 7} {m₂ = 7} h l
 
 -- ---- outputs in their cells
 
-pub store-step : (m r s to : ℕ) (x turns dst ys zs : List ℕ) (p : ℕ) → ys ≡ storeTo m r s to x turns dst p
-    → zs ≡ cond (ltb p r) (set ys (to + p * s) (sumTo m r p x turns 7)) ys → zs ≡ storeTo m r s to x turns dst (suc p)
-unfolding storeTo
-store-step m r s to x turns dst ys zs p e f = f ∙ rw e
+module _ (m r s to : ℕ) (x turns dst : List ℕ) (p : ℕ) where
+  pub store-none : dst ≡ storeFrom m r s to x turns dst p 0
+  unfolding storeFrom
+  store-none = refl
 
-pub store-first : (m r s to : ℕ) (x turns dst : List ℕ) → dst ≡ storeTo m r s to x turns dst 0
-unfolding storeTo
-store-first m r s to x turns dst = refl
+  -- one output more, q
+  pub store-next : (n q : ℕ) (ys zs : List ℕ) → q ≡ p + n → ys ≡ storeFrom m r s to x turns dst p n
+      → zs ≡ cond (ltb q r) (set ys (to + q * s) (sumTo m r q x turns 7)) ys → zs ≡ storeFrom m r s to x turns dst p (suc n)
+  unfolding storeFrom
+  store-next n q ys zs e f g = g ∙ rw (e, f)
 
-pub length-store : (m r s to : ℕ) (x turns dst : List ℕ) (p : ℕ) → length (storeTo m r s to x turns dst p) ≡ length dst
-unfolding storeTo
-length-store m r s to x turns dst zero = refl
-length-store m r s to x turns dst (suc p) = go (ltb p r) (length-store m r s to x turns dst p)
+-- the outputs from p on, after those before
+pub store-on : (m r s to : ℕ) (x turns dst : List ℕ) (p n : ℕ)
+    → storeFrom m r s to x turns (storeFrom m r s to x turns dst 0 p) p n ≡ storeFrom m r s to x turns dst 0 (p + n)
+unfolding storeFrom
+store-on m r s to x turns dst p zero = ap (storeFrom m r s to x turns dst 0) (sym (add-zero p))
+store-on m r s to x turns dst p (suc n) =
+    rw (store-on m r s to x turns dst p n, zero-add (p + n)) refl ∙ ap (storeFrom m r s to x turns dst 0) {x = suc (p + n)} {y = p + suc n} (omega arith)
+
+-- those past the radix are left out
+pub store-stop : (m r s to : ℕ) (x turns dst : List ℕ) (k : ℕ) → storeFrom m r s to x turns dst 0 (r + k) ≡ storeFrom m r s to x turns dst 0 r
+unfolding storeFrom
+store-stop m r s to x turns dst zero = ap (storeFrom m r s to x turns dst 0) (add-zero r)
+store-stop m r s to x turns dst (suc k) = ap (storeFrom m r s to x turns dst 0) {x = r + suc k} {y = suc (r + k)} (omega arith) ∙ last ∙ store-stop m r s to x turns dst k
   where
-    rest : List ℕ
-    rest = storeTo m r s to x turns dst p
+    last : storeFrom m r s to x turns dst 0 (suc (r + k)) ≡ storeFrom m r s to x turns dst 0 (r + k)
+    last = simp (zero-add, le-ltb (r + k) r (omega arith))
 
-    go : (t : Bool) → length rest ≡ length dst → length (cond t (set rest (to + p * s) (sumTo m r p x turns 7)) rest) ≡ length dst
-    go true e = length-set rest (to + p * s) (sumTo m r p x turns 7) ∙ e
-    go false e = e
+-- so n outputs are all, where r is at most n
+pub store-all : (m r s to : ℕ) (x turns dst : List ℕ) (n : ℕ) → r ≤ n → storeFrom m r s to x turns dst 0 n ≡ storeFrom m r s to x turns dst 0 r
+store-all m r s to x turns dst n l = ap (storeFrom m r s to x turns dst 0) {x = n} {y = r + (n - r)} (omega arith) ∙ store-stop m r s to x turns dst (n - r)

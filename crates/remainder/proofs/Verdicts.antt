@@ -81,16 +81,17 @@ taken p m w xs room planned e =
     let c = accepted-by (not (eqb (length xs) h)) (Length 0) _ (b .1) in
     let d = accepted-by (not (eqb room h)) (Length 2) _ (c .1) in
     let f = accepted-by (ltb (firstLarge m xs) (length xs)) (Remainder (firstLarge m xs)) Accepted (d .1) in
-    let g = either (ltb w m) (eqb (w ^ h % m) 1) (b .0) in
-    (record {
-      planned = planned;
-      modulus = ltb-false m 2 (a .0);
-      base = ltb-true w m (g .0);
-      circle = eqb-true (w ^ h % m) 1 (g .1);
-      long = eqb-true (length xs) h (not-false _ (c .0));
-      cells = none-large m xs (ltb-false (firstLarge m xs) (length xs) (f .0));
-    },
-    eqb-true room h (not-false _ (d .0)))
+    let g = either (ltb w m) (eqb (w ^ h % m) 1) (b .0) in (
+      record {
+        planned = planned;
+        modulus = ltb-false m 2 (a .0);
+        base = ltb-true w m (g .0);
+        circle = eqb-true (w ^ h % m) 1 (g .1);
+        long = eqb-true (length xs) h (not-false _ (c .0));
+        cells = none-large m xs (ltb-false (firstLarge m xs) (length xs) (f .0));
+      },
+      eqb-true room h (not-false _ (d .0)),
+    )
 
 -- ---- a stage
 

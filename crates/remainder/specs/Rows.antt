@@ -37,15 +37,15 @@ value m r apart v src turns i p = sumTo m r p (twiddledRow m v r (rowOf src i ap
 unfoldable pub stepped : (m r s apart step : ℕ) → (src turns : List ℕ) → (i p : ℕ) → ℕ
 stepped m r s apart step src turns i = value m r apart (step ^ (i % s) % m) src turns i
 
--- the first n outputs written, s apart, those at or past r left out
-unfoldable pub storeTo : (m r s to : ℕ) → (x turns dst : List ℕ) → ℕ → List ℕ
-storeTo m r s to x turns dst zero = dst
-storeTo m r s to x turns dst (suc p) =
-    cond (ltb p r) (set (storeTo m r s to x turns dst p) (to + p * s) (sumTo m r p x turns 7)) (storeTo m r s to x turns dst p)
+-- outputs p to p + n - 1 written, s apart, those at or past r left out
+unfoldable pub storeFrom : (m r s to : ℕ) → (x turns dst : List ℕ) → (p n : ℕ) → List ℕ
+storeFrom m r s to x turns dst p zero = dst
+storeFrom m r s to x turns dst p (suc n) =
+    cond (ltb (p + n) r) (set (storeFrom m r s to x turns dst p n) (to + (p + n) * s) (sumTo m r (p + n) x turns 7)) (storeFrom m r s to x turns dst p n)
 
 -- what an iteration of radix r leaves in dst: its cells read from i on, its outputs written from `to` on
 abbrev pub stored : (m v i apart to s : ℕ) → (turns src dst : List ℕ) → ℕ → List ℕ
-stored m v i apart to s turns src dst r = storeTo m r s to (twiddledRow m v r (rowOf src i apart r)) turns dst 8
+stored m v i apart to s turns src dst r = storeFrom m r s to (twiddledRow m v r (rowOf src i apart r)) turns dst 0 r
 
 -- a modulus that fits 32 bits
 pub record Modulus (m : ℕ) : Type 0 where
@@ -64,6 +64,16 @@ pub record Shape (n s r apart cells : ℕ) : Type 0 where
 -- the first r entries are remainders
 abbrev pub Under : (m r : ℕ) → List ℕ → Type 0
 Under m r x = (q : ℕ) → q < r → getD x q 0 < m
+
+-- what storing outputs asks for: remainders, and writes within a list of `into` cells
+pub record Storable (m r s to : ℕ) (x turns : List ℕ) (into : ℕ) : Type 0 where
+  pub some : 0 < r
+  pub eight : r ≤ 8
+  pub modulus : Modulus m
+  pub cells : Under m r x
+  pub turning : Under m 8 turns
+  pub writes : (p : ℕ) → p < r → to + p * s < into
+  pub long : s ≤ 4096
 
 -- what an iteration of radix r asks of its numbers: remainders, reads within src, writes within a list of `into` cells
 pub record Ready (m v i apart to s : ℕ) (turns src : List ℕ) (into r : ℕ) : Type 0 where

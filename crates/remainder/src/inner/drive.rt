@@ -51,7 +51,12 @@ pub fn all(plan: Record, m: u64, w: u64, data: &mut [u32], scratch: &mut [u32])
 }
 
 // The first h cells of the buffer so named.
-pub fn part<'a>(data: &'a mut [u32], scratch: &'a mut [u32], h: usize, which: Buffer) -> &'a mut [u32]
+pub fn part<'a>(
+    data: &'a mut [u32],
+    scratch: &'a mut [u32],
+    h: usize,
+    which: Buffer,
+) -> &'a mut [u32]
     requires { ⌜ (h ≤ length (now «data»)) × (h ≤ length (now scratch)) ⌝ }
     ensures { λ r. ⌜ now r ≡ take h (heldIn which (now («data» .entry), now (scratch .entry))) ⌝ }
     ensures { λ r. ⌜ r .ptr ≡ heldIn which («data» .entry .ptr, scratch .entry .ptr) ⌝ }

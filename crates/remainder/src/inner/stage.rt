@@ -10,7 +10,7 @@ ghost use lib.Dec.{ltb};
 ghost use lib.ListN.{length, getD, set};
 ghost use Rattle.schedule.specs.Stage.{putColumn, putColumns};
 ghost use Rattle.remainder.specs.Calls.{stageOf, Workable};
-ghost use Rattle.remainder.specs.Rows.{below, rowOf, twiddledRow, sumTo, storeTo, stored, value, stepped, Modulus, Under, Shape, Ready};
+ghost use Rattle.remainder.specs.Rows.{below, rowOf, twiddledRow, sumTo, storeFrom, stored, value, stepped, Modulus, Under, Storable, Shape, Ready};
 
 // Cell q of an iteration, 0 past the radix.
 fn cell(src: &[u32], i: usize, apart: usize, r: usize, q: usize) -> u64
@@ -114,7 +114,7 @@ fn put(
     p: usize,
     m: u64,
 )
-    requires { ⌜ (0 < r) × ((r ≤ 8) × ((p ≤ 7) × (Modulus m × (Under m r x × (Under m 8 turns × ((p < r → to + p * s < length (now dst)) × (s ≤ 4096))))))) ⌝ }
+    requires { ⌜ (p ≤ 7) × Storable m r s to x turns (length (now dst)) ⌝ }
     ensures { λ _. ⌜ now (dst .exit) ≡ cond (ltb p r) (set (now (dst .entry)) (to + p * s) (sumTo m r p x turns 7)) (now (dst .entry)) ⌝ }
 {
     if p < r {
@@ -123,19 +123,24 @@ fn put(
     }
 }
 
-// The outputs of an iteration, s apart.
-fn store(dst: &mut [u32], to: usize, s: usize, x: [u64; 8], turns: [u64; 8], r: usize, m: u64)
-    requires { ⌜ (0 < r) × ((r ≤ 8) × (Modulus m × (Under m r x × (Under m 8 turns × (((p : ℕ) → p < r → to + p * s < length (now dst)) × (s ≤ 4096)))))) ⌝ }
-    ensures { λ _. ⌜ now (dst .exit) ≡ storeTo m r s to x turns (now (dst .entry)) 8 ⌝ }
+// Four outputs of an iteration, from p on.
+fn four(
+    dst: &mut [u32],
+    to: usize,
+    s: usize,
+    x: [u64; 8],
+    turns: [u64; 8],
+    r: usize,
+    p: usize,
+    m: u64,
+)
+    requires { ⌜ (p ≤ 4) × Storable m r s to x turns (length (now dst)) ⌝ }
+    ensures { λ _. ⌜ now (dst .exit) ≡ storeFrom m r s to x turns (now (dst .entry)) p 4 ⌝ }
 {
-    put(dst, to, s, x, turns, r, 0, m);
-    put(dst, to, s, x, turns, r, 1, m);
-    put(dst, to, s, x, turns, r, 2, m);
-    put(dst, to, s, x, turns, r, 3, m);
-    put(dst, to, s, x, turns, r, 4, m);
-    put(dst, to, s, x, turns, r, 5, m);
-    put(dst, to, s, x, turns, r, 6, m);
-    put(dst, to, s, x, turns, r, 7, m);
+    put(dst, to, s, x, turns, r, p, m);
+    put(dst, to, s, x, turns, r, p + 1, m);
+    put(dst, to, s, x, turns, r, p + 2, m);
+    put(dst, to, s, x, turns, r, p + 3, m);
 }
 
 // One iteration: its cells read from i on, its outputs written from `to` on, the radix written out so that the compiler sees it.
@@ -156,20 +161,29 @@ fn one(
 {
     if r < 4 {
         if r == 2 {
-            store(dst, to, s, twiddled(row(src, i, apart, 2), v, 2, m), turns, 2, m);
+            let y = twiddled(row(src, i, apart, 2), v, 2, m);
+            four(dst, to, s, y, turns, 2, 0, m);
         } else {
-            store(dst, to, s, twiddled(row(src, i, apart, 3), v, 3, m), turns, 3, m);
+            let y = twiddled(row(src, i, apart, 3), v, 3, m);
+            four(dst, to, s, y, turns, 3, 0, m);
         }
     } else if r < 6 {
         if r == 4 {
-            store(dst, to, s, twiddled(row(src, i, apart, 4), v, 4, m), turns, 4, m);
+            let y = twiddled(row(src, i, apart, 4), v, 4, m);
+            four(dst, to, s, y, turns, 4, 0, m);
         } else {
-            store(dst, to, s, twiddled(row(src, i, apart, 5), v, 5, m), turns, 5, m);
+            let y = twiddled(row(src, i, apart, 5), v, 5, m);
+            four(dst, to, s, y, turns, 5, 0, m);
+            four(dst, to, s, y, turns, 5, 4, m);
         }
     } else if r == 7 {
-        store(dst, to, s, twiddled(row(src, i, apart, 7), v, 7, m), turns, 7, m);
+        let y = twiddled(row(src, i, apart, 7), v, 7, m);
+        four(dst, to, s, y, turns, 7, 0, m);
+        four(dst, to, s, y, turns, 7, 4, m);
     } else {
-        store(dst, to, s, twiddled(row(src, i, apart, 8), v, 8, m), turns, 8, m);
+        let y = twiddled(row(src, i, apart, 8), v, 8, m);
+        four(dst, to, s, y, turns, 8, 0, m);
+        four(dst, to, s, y, turns, 8, 4, m);
     }
 }
 

@@ -4,7 +4,6 @@ use native.Mathlib.Omega.{arith}
 use mathlib.Core.Path.{_≡_, refl, ap, _∙_}
 use lib.ListN.{length}
 use Prim.Native.Nat.{_+_, _-_, _*_, _≤_}
-use Rattle.plan.proofs.Products.{radix-least}
 use Rattle.schedule.specs.Stage.{putColumn}
 use Rattle.remainder.specs.Rows.{value}
 use Rattle.remainder.proofs.Iteration.{column-next, column-none}
@@ -62,7 +61,7 @@ loop-again c =
     let a = s .args in
     let l = c .before .before .before .before .before .loop in
     let o = c .before .before .one in
-    (omega arith, (omega arith, (omega arith, (o .kept .1 .0 ∙ l .inv .1 .1 .1 .0, column-next (a .m) (a .r) (a .s) (l .b) (a .k) (a .apart) (a .v) (a .turns) (a .src .now) (a .dst .now) (l .dst) (o .last .1 .0) (l .i) (l .to) (s .pre .0) (radix-least (a .r) (s .pre .1 .1 .1 .1 .0 .radix) .1) (l .inv .0) (l .inv .1 .0) (l .inv .1 .1 .1 .1) (o .ensures)))))
+    (omega arith, (omega arith, (omega arith, (o .kept .1 .0 ∙ l .inv .1 .1 .1 .0, column-next (a .m) (a .r) (a .s) (l .b) (a .k) (a .apart) (a .v) (a .turns) (a .src .now) (a .dst .now) (l .dst) (o .last .1 .0) (l .i) (l .to) (s .pre .0) (l .inv .0) (l .inv .1 .0) (l .inv .1 .1 .1 .1) (o .ensures)))))
 
 same-length : tie.Need-same-length Inv-loop μ-loop
 same-length c = search needs

@@ -1,136 +1,157 @@
 -- `remainder::inner::stage::one` meets its contract. Assumes nothing.
 use native.Mathlib.Omega.{arith}
-use mathlib.Core.Path.{_≡_}
+use mathlib.Core.Path.{_≡_, refl}
 use borrow.Author.Needs.{needs}
-use Rattle.remainder.proofs.Arms.{is-three, is-eight, row-ready, twiddled-ready, store-ready, arm-stored}
+use Rattle.remainder.proofs.Arms.{is-three, is-eight, row-ready, twiddled-ready, four-ready, few-stored, many-stored}
 use Rattle.remainder.proofs.inner.stage.one.Statement.{statement}
 use Rattle.remainder.proofs.inner.stage.one.Tie as tie
 
 row-requires : tie.Need-row-requires
 row-requires c κs =
-    let g = c .before in
+    let g = c in
     let s = g .before .before .before .before in
     let e : s .args .r ≡ 2 = g .if2 .taken in
     row-ready _ _ _ _ _ _ _ _ _ _ (s .pre) 2 e
 
 twiddled-requires : tie.Need-twiddled-requires
 twiddled-requires c κs =
-    let g = c .before .before in
+    let g = c .before in
     let s = g .before .before .before .before in
     let e : s .args .r ≡ 2 = g .if2 .taken in
     twiddled-ready _ _ _ _ _ _ _ _ _ _ (s .pre) 2 e (c .row .result) (c .row .ensures)
 
-store-requires : tie.Need-store-requires
-store-requires c κs =
+four-requires : tie.Need-four-requires
+four-requires c κs =
     let g = c .before .before .before in
     let s = g .before .before .before .before in
     let e : s .args .r ≡ 2 = g .if2 .taken in
-    store-ready _ _ _ _ _ _ _ _ _ _ (s .pre) 2 e (c .before .row .result) (c .twiddled .result) (c .twiddled .ensures)
+    (omega arith, four-ready _ _ _ _ _ _ _ _ _ _ (s .pre) 2 e (c .before .before .row .result) (c .before .twiddled .result) (c .before .twiddled .ensures) _ refl)
 
 row-requires-2 : tie.Need-row-requires-2
 row-requires-2 c κs =
-    let g = c .before in
+    let g = c in
     let s = g .before .before .before .before in
     let e : s .args .r ≡ 3 = is-three (s .args .r) (s .pre .radix) (g .before .if1 .taken) (g .if2 .left) in
     row-ready _ _ _ _ _ _ _ _ _ _ (s .pre) 3 e
 
 twiddled-requires-2 : tie.Need-twiddled-requires-2
 twiddled-requires-2 c κs =
-    let g = c .before .before in
+    let g = c .before in
     let s = g .before .before .before .before in
     let e : s .args .r ≡ 3 = is-three (s .args .r) (s .pre .radix) (g .before .if1 .taken) (g .if2 .left) in
     twiddled-ready _ _ _ _ _ _ _ _ _ _ (s .pre) 3 e (c .row2 .result) (c .row2 .ensures)
 
-store-requires-2 : tie.Need-store-requires-2
-store-requires-2 c κs =
+four-requires-2 : tie.Need-four-requires-2
+four-requires-2 c κs =
     let g = c .before .before .before in
     let s = g .before .before .before .before in
     let e : s .args .r ≡ 3 = is-three (s .args .r) (s .pre .radix) (g .before .if1 .taken) (g .if2 .left) in
-    store-ready _ _ _ _ _ _ _ _ _ _ (s .pre) 3 e (c .before .row2 .result) (c .twiddled2 .result) (c .twiddled2 .ensures)
+    (omega arith, four-ready _ _ _ _ _ _ _ _ _ _ (s .pre) 3 e (c .before .before .row2 .result) (c .before .twiddled2 .result) (c .before .twiddled2 .ensures) _ refl)
 
 row-requires-3 : tie.Need-row-requires-3
 row-requires-3 c κs =
-    let g = c .before in
+    let g = c in
     let s = g .before .before .before .before .before in
     let e : s .args .r ≡ 4 = g .if4 .taken in
     row-ready _ _ _ _ _ _ _ _ _ _ (s .pre) 4 e
 
 twiddled-requires-3 : tie.Need-twiddled-requires-3
 twiddled-requires-3 c κs =
-    let g = c .before .before in
+    let g = c .before in
     let s = g .before .before .before .before .before in
     let e : s .args .r ≡ 4 = g .if4 .taken in
     twiddled-ready _ _ _ _ _ _ _ _ _ _ (s .pre) 4 e (c .row3 .result) (c .row3 .ensures)
 
-store-requires-3 : tie.Need-store-requires-3
-store-requires-3 c κs =
+four-requires-3 : tie.Need-four-requires-3
+four-requires-3 c κs =
     let g = c .before .before .before in
     let s = g .before .before .before .before .before in
     let e : s .args .r ≡ 4 = g .if4 .taken in
-    store-ready _ _ _ _ _ _ _ _ _ _ (s .pre) 4 e (c .before .row3 .result) (c .twiddled3 .result) (c .twiddled3 .ensures)
+    (omega arith, four-ready _ _ _ _ _ _ _ _ _ _ (s .pre) 4 e (c .before .before .row3 .result) (c .before .twiddled3 .result) (c .before .twiddled3 .ensures) _ refl)
 
 row-requires-4 : tie.Need-row-requires-4
 row-requires-4 c κs =
-    let g = c .before in
+    let g = c in
     let s = g .before .before .before .before .before in
     let e : s .args .r ≡ 5 = omega (arith, g .before .before .if1 .left, g .before .if3 .taken, g .if4 .left) in
     row-ready _ _ _ _ _ _ _ _ _ _ (s .pre) 5 e
 
 twiddled-requires-4 : tie.Need-twiddled-requires-4
 twiddled-requires-4 c κs =
-    let g = c .before .before in
+    let g = c .before in
     let s = g .before .before .before .before .before in
     let e : s .args .r ≡ 5 = omega (arith, g .before .before .if1 .left, g .before .if3 .taken, g .if4 .left) in
     twiddled-ready _ _ _ _ _ _ _ _ _ _ (s .pre) 5 e (c .row4 .result) (c .row4 .ensures)
 
-store-requires-4 : tie.Need-store-requires-4
-store-requires-4 c κs =
+four-requires-4 : tie.Need-four-requires-4
+four-requires-4 c κs =
     let g = c .before .before .before in
     let s = g .before .before .before .before .before in
     let e : s .args .r ≡ 5 = omega (arith, g .before .before .if1 .left, g .before .if3 .taken, g .if4 .left) in
-    store-ready _ _ _ _ _ _ _ _ _ _ (s .pre) 5 e (c .before .row4 .result) (c .twiddled4 .result) (c .twiddled4 .ensures)
+    (omega arith, four-ready _ _ _ _ _ _ _ _ _ _ (s .pre) 5 e (c .before .before .row4 .result) (c .before .twiddled4 .result) (c .before .twiddled4 .ensures) _ refl)
+
+four-requires-5 : tie.Need-four-requires-5
+four-requires-5 c κs =
+    let g = c .before .before .before .before .before .before .before in
+    let s = g .before .before .before .before .before in
+    let e : s .args .r ≡ 5 = omega (arith, g .before .before .if1 .left, g .before .if3 .taken, g .if4 .left) in
+    (omega arith, four-ready _ _ _ _ _ _ _ _ _ _ (s .pre) 5 e (c .before .before .before .before .before .before .row4 .result) (c .before .before .before .before .before .twiddled4 .result) (c .before .before .before .before .before .twiddled4 .ensures) _ (c .before .before .before .four4 .kept .0))
 
 row-requires-5 : tie.Need-row-requires-5
 row-requires-5 c κs =
-    let g = c .before in
+    let g = c in
     let s = g .before .before .before .before .before in
     let e : s .args .r ≡ 7 = g .if5 .taken in
     row-ready _ _ _ _ _ _ _ _ _ _ (s .pre) 7 e
 
 twiddled-requires-5 : tie.Need-twiddled-requires-5
 twiddled-requires-5 c κs =
-    let g = c .before .before in
+    let g = c .before in
     let s = g .before .before .before .before .before in
     let e : s .args .r ≡ 7 = g .if5 .taken in
     twiddled-ready _ _ _ _ _ _ _ _ _ _ (s .pre) 7 e (c .row5 .result) (c .row5 .ensures)
 
-store-requires-5 : tie.Need-store-requires-5
-store-requires-5 c κs =
+four-requires-6 : tie.Need-four-requires-6
+four-requires-6 c κs =
     let g = c .before .before .before in
     let s = g .before .before .before .before .before in
     let e : s .args .r ≡ 7 = g .if5 .taken in
-    store-ready _ _ _ _ _ _ _ _ _ _ (s .pre) 7 e (c .before .row5 .result) (c .twiddled5 .result) (c .twiddled5 .ensures)
+    (omega arith, four-ready _ _ _ _ _ _ _ _ _ _ (s .pre) 7 e (c .before .before .row5 .result) (c .before .twiddled5 .result) (c .before .twiddled5 .ensures) _ refl)
+
+four-requires-7 : tie.Need-four-requires-7
+four-requires-7 c κs =
+    let g = c .before .before .before .before .before .before .before in
+    let s = g .before .before .before .before .before in
+    let e : s .args .r ≡ 7 = g .if5 .taken in
+    (omega arith, four-ready _ _ _ _ _ _ _ _ _ _ (s .pre) 7 e (c .before .before .before .before .before .before .row5 .result) (c .before .before .before .before .before .twiddled5 .result) (c .before .before .before .before .before .twiddled5 .ensures) _ (c .before .before .before .four6 .kept .0))
 
 row-requires-6 : tie.Need-row-requires-6
 row-requires-6 c κs =
-    let g = c .before in
+    let g = c in
     let s = g .before .before .before .before .before in
     let e : s .args .r ≡ 8 = is-eight (s .args .r) (s .pre .radix) (g .before .if3 .left) (g .if5 .left) in
     row-ready _ _ _ _ _ _ _ _ _ _ (s .pre) 8 e
 
 twiddled-requires-6 : tie.Need-twiddled-requires-6
 twiddled-requires-6 c κs =
-    let g = c .before .before in
+    let g = c .before in
     let s = g .before .before .before .before .before in
     let e : s .args .r ≡ 8 = is-eight (s .args .r) (s .pre .radix) (g .before .if3 .left) (g .if5 .left) in
     twiddled-ready _ _ _ _ _ _ _ _ _ _ (s .pre) 8 e (c .row6 .result) (c .row6 .ensures)
 
-store-requires-6 : tie.Need-store-requires-6
-store-requires-6 c κs =
+four-requires-8 : tie.Need-four-requires-8
+four-requires-8 c κs =
     let g = c .before .before .before in
     let s = g .before .before .before .before .before in
     let e : s .args .r ≡ 8 = is-eight (s .args .r) (s .pre .radix) (g .before .if3 .left) (g .if5 .left) in
-    store-ready _ _ _ _ _ _ _ _ _ _ (s .pre) 8 e (c .before .row6 .result) (c .twiddled6 .result) (c .twiddled6 .ensures)
+    (omega arith, four-ready _ _ _ _ _ _ _ _ _ _ (s .pre) 8 e (c .before .before .row6 .result) (c .before .twiddled6 .result) (c .before .twiddled6 .ensures) _ refl)
+
+four-requires-9 : tie.Need-four-requires-9
+four-requires-9 c κs =
+    let g = c .before .before .before .before .before .before .before in
+    let s = g .before .before .before .before .before in
+    let e : s .args .r ≡ 8 = is-eight (s .args .r) (s .pre .radix) (g .before .if3 .left) (g .if5 .left) in
+    (omega arith, four-ready _ _ _ _ _ _ _ _ _ _ (s .pre) 8 e (c .before .before .before .before .before .before .row6 .result) (c .before .before .before .before .before .twiddled6 .result) (c .before .before .before .before .before .twiddled6 .ensures) _ (c .before .before .before .four8 .kept .0))
 
 same-length : tie.Need-same-length
 same-length c = search needs
@@ -140,7 +161,7 @@ returns c =
     let g = c .before .before .before .before .before .before in
     let s = g .before .before .before .before in
     let e : s .args .r ≡ 2 = g .if2 .taken in
-    arm-stored _ _ _ _ _ _ _ _ _ _ (s .pre) 2 e (c .before .before .before .before .row .result) (c .before .before .before .twiddled .result) _ _ (c .before .before .before .before .row .ensures) (c .before .before .before .twiddled .ensures) (c .before .before .store .ensures)
+    few-stored _ _ _ _ _ _ _ _ _ _ (s .pre) 2 e (c .before .before .before .before .before .row .result) (c .before .before .before .before .twiddled .result) _ _ (omega arith) (c .before .before .before .before .before .row .ensures) (c .before .before .before .before .twiddled .ensures) (c .before .before .four .ensures)
 
 same-length-2 : tie.Need-same-length-2
 same-length-2 c = search needs
@@ -150,7 +171,7 @@ returns-2 c =
     let g = c .before .before .before .before .before .before in
     let s = g .before .before .before .before in
     let e : s .args .r ≡ 3 = is-three (s .args .r) (s .pre .radix) (g .before .if1 .taken) (g .if2 .left) in
-    arm-stored _ _ _ _ _ _ _ _ _ _ (s .pre) 3 e (c .before .before .before .before .row2 .result) (c .before .before .before .twiddled2 .result) _ _ (c .before .before .before .before .row2 .ensures) (c .before .before .before .twiddled2 .ensures) (c .before .before .store2 .ensures)
+    few-stored _ _ _ _ _ _ _ _ _ _ (s .pre) 3 e (c .before .before .before .before .before .row2 .result) (c .before .before .before .before .twiddled2 .result) _ _ (omega arith) (c .before .before .before .before .before .row2 .ensures) (c .before .before .before .before .twiddled2 .ensures) (c .before .before .four2 .ensures)
 
 same-length-3 : tie.Need-same-length-3
 same-length-3 c = search needs
@@ -160,37 +181,37 @@ returns-3 c =
     let g = c .before .before .before .before .before .before in
     let s = g .before .before .before .before .before in
     let e : s .args .r ≡ 4 = g .if4 .taken in
-    arm-stored _ _ _ _ _ _ _ _ _ _ (s .pre) 4 e (c .before .before .before .before .row3 .result) (c .before .before .before .twiddled3 .result) _ _ (c .before .before .before .before .row3 .ensures) (c .before .before .before .twiddled3 .ensures) (c .before .before .store3 .ensures)
+    few-stored _ _ _ _ _ _ _ _ _ _ (s .pre) 4 e (c .before .before .before .before .before .row3 .result) (c .before .before .before .before .twiddled3 .result) _ _ (omega arith) (c .before .before .before .before .before .row3 .ensures) (c .before .before .before .before .twiddled3 .ensures) (c .before .before .four3 .ensures)
 
 same-length-4 : tie.Need-same-length-4
 same-length-4 c = search needs
 
 returns-4 : tie.Need-returns-4
 returns-4 c =
-    let g = c .before .before .before .before .before .before in
+    let g = c .before .before .before .before .before .before .before .before .before .before in
     let s = g .before .before .before .before .before in
     let e : s .args .r ≡ 5 = omega (arith, g .before .before .if1 .left, g .before .if3 .taken, g .if4 .left) in
-    arm-stored _ _ _ _ _ _ _ _ _ _ (s .pre) 5 e (c .before .before .before .before .row4 .result) (c .before .before .before .twiddled4 .result) _ _ (c .before .before .before .before .row4 .ensures) (c .before .before .before .twiddled4 .ensures) (c .before .before .store4 .ensures)
+    many-stored _ _ _ _ _ _ _ _ _ _ (s .pre) 5 e (c .before .before .before .before .before .before .before .before .before .row4 .result) (c .before .before .before .before .before .before .before .before .twiddled4 .result) _ _ _ (c .before .before .before .before .before .before .before .before .before .row4 .ensures) (c .before .before .before .before .before .before .before .before .twiddled4 .ensures) (c .before .before .before .before .before .before .four4 .ensures) (c .before .before .four5 .ensures)
 
 same-length-5 : tie.Need-same-length-5
 same-length-5 c = search needs
 
 returns-5 : tie.Need-returns-5
 returns-5 c =
-    let g = c .before .before .before .before .before .before in
+    let g = c .before .before .before .before .before .before .before .before .before .before in
     let s = g .before .before .before .before .before in
     let e : s .args .r ≡ 7 = g .if5 .taken in
-    arm-stored _ _ _ _ _ _ _ _ _ _ (s .pre) 7 e (c .before .before .before .before .row5 .result) (c .before .before .before .twiddled5 .result) _ _ (c .before .before .before .before .row5 .ensures) (c .before .before .before .twiddled5 .ensures) (c .before .before .store5 .ensures)
+    many-stored _ _ _ _ _ _ _ _ _ _ (s .pre) 7 e (c .before .before .before .before .before .before .before .before .before .row5 .result) (c .before .before .before .before .before .before .before .before .twiddled5 .result) _ _ _ (c .before .before .before .before .before .before .before .before .before .row5 .ensures) (c .before .before .before .before .before .before .before .before .twiddled5 .ensures) (c .before .before .before .before .before .before .four6 .ensures) (c .before .before .four7 .ensures)
 
 same-length-6 : tie.Need-same-length-6
 same-length-6 c = search needs
 
 returns-6 : tie.Need-returns-6
 returns-6 c =
-    let g = c .before .before .before .before .before .before in
+    let g = c .before .before .before .before .before .before .before .before .before .before in
     let s = g .before .before .before .before .before in
     let e : s .args .r ≡ 8 = is-eight (s .args .r) (s .pre .radix) (g .before .if3 .left) (g .if5 .left) in
-    arm-stored _ _ _ _ _ _ _ _ _ _ (s .pre) 8 e (c .before .before .before .before .row6 .result) (c .before .before .before .twiddled6 .result) _ _ (c .before .before .before .before .row6 .ensures) (c .before .before .before .twiddled6 .ensures) (c .before .before .store6 .ensures)
+    many-stored _ _ _ _ _ _ _ _ _ _ (s .pre) 8 e (c .before .before .before .before .before .before .before .before .before .row6 .result) (c .before .before .before .before .before .before .before .before .twiddled6 .result) _ _ _ (c .before .before .before .before .before .before .before .before .before .row6 .ensures) (c .before .before .before .before .before .before .before .before .twiddled6 .ensures) (c .before .before .before .before .before .before .four8 .ensures) (c .before .before .four9 .ensures)
 
 pub one-spec : {M : Type 1} → statement M
 one-spec =
@@ -198,22 +219,25 @@ one-spec =
     (tie.spec
     row-requires
     twiddled-requires
-    store-requires
+    four-requires
     row-requires-2
     twiddled-requires-2
-    store-requires-2
+    four-requires-2
     row-requires-3
     twiddled-requires-3
-    store-requires-3
+    four-requires-3
     row-requires-4
     twiddled-requires-4
-    store-requires-4
+    four-requires-4
+    four-requires-5
     row-requires-5
     twiddled-requires-5
-    store-requires-5
+    four-requires-6
+    four-requires-7
     row-requires-6
     twiddled-requires-6
-    store-requires-6
+    four-requires-8
+    four-requires-9
     same-length
     returns
     same-length-2

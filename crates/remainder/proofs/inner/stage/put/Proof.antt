@@ -7,22 +7,22 @@ use Rattle.remainder.proofs.inner.stage.put.Statement.{statement}
 use Rattle.remainder.proofs.inner.stage.put.Tie as tie
 
 output-requires : tie.Need-output-requires
-output-requires c κs = search needs
+output-requires c κs = let h = c .before .before .pre in (h .1 .some, (h .1 .eight, (h .0, (h .1 .modulus, (h .1 .cells, h .1 .turning)))))
 
 cast-dst : tie.Need-cast-dst
 cast-dst c = search needs
 
 mul-dst : tie.Need-mul-dst
-mul-dst c = omega (arith, (c .before .before .before .pre .1 .1 .1 .1 .1 .1 .0 (c .before .if1 .taken)))
+mul-dst c = omega (arith, (c .before .before .before .pre .1 .writes _ (c .before .if1 .taken)))
 
 add-dst : tie.Need-add-dst
-add-dst c = omega (arith, (c .before .before .before .pre .1 .1 .1 .1 .1 .1 .0 (c .before .if1 .taken)))
+add-dst c = omega (arith, (c .before .before .before .pre .1 .writes _ (c .before .if1 .taken)))
 
 mul-dst-2 : tie.Need-mul-dst-2
-mul-dst-2 c = omega (arith, (c .before .before .before .pre .1 .1 .1 .1 .1 .1 .0 (c .before .if1 .taken)))
+mul-dst-2 c = omega (arith, (c .before .before .before .pre .1 .writes _ (c .before .if1 .taken)))
 
 slice-write-dst : tie.Need-slice-write-dst
-slice-write-dst c = (c .before .before .before .pre .1 .1 .1 .1 .1 .1 .0 (c .before .if1 .taken))
+slice-write-dst c = (c .before .before .before .pre .1 .writes _ (c .before .if1 .taken))
 
 same-length : tie.Need-same-length
 same-length c = search needs
