@@ -1,0 +1,20 @@
+-- The answer of a single turn, refused and accepted. Assumes nothing.
+use Prim.Native.Nat.{ℕ, _%_}
+use mathlib.Core.Path.{_≡_, _∙_}
+use mathlib.Core.Bool.{true, false}
+use Rattle.refusal.specs.declared.Refusal.the-variants.{NotHoused}
+use Rattle.refusal.specs.declared.Verdict.the-variants.{Accepted, Refused}
+use Rattle.turn.specs.declared.Turn.{Turn}
+use Rattle.turn.specs.declared.Turn.the-variants.{Zero}
+use Rattle.turn.specs.Calls.{part, turnVerdict, turned, Turns}
+use Rattle.turn.specs.Turns.{housed, turnOf}
+use Rattle.turn.proofs.Index.{turn-mod}
+
+pub refused : (t L : ℕ) → housed L ≡ false → Turns t L (record { verdict = Refused NotHoused; turn = Zero })
+unfolding turned turnVerdict
+refused t L h = record { answer = simp h }
+
+pub accepted : (t L : ℕ) (turn : Turn) → housed L ≡ true → turn ≡ turnOf (part (t % L) L)
+    → Turns t L (record { verdict = Accepted; turn = turn })
+unfolding turned turnVerdict
+accepted t L turn h e = let w : turn ≡ turnOf (part t L) = e ∙ turn-mod t L h in record { answer = simp (h, w) }

@@ -1,0 +1,142 @@
+-- An entry of the table under its quarters and its signs is the turn at its index. Assumes nothing.
+use Prim.Native.Nat.{ℕ, zero, suc, _-_, _/_, _%_, _^_, _<_, _≤_}
+use native.Mathlib.Nat.{mod-lt, zero-lt-suc, not-suc-le-zero}
+use native.Mathlib.Omega.{arith}
+use mathlib.Core.Path.{_≡_, refl, sym, ap, ap₂, _∙_, subst}
+use mathlib.Core.Logic.{dite}
+use mathlib.Core.Bool.{Bool, true, false, cond}
+use mathlib.Core.List.{List}
+use native.Mathlib.Decide.{decLe}
+use lib.Dec.{ltb, eqb}
+use lib.ListN.{length, getD}
+use lib.Ieee.{Float, binary32, round, neg}
+use borrow.Author.Tests.{lt-ltb, le-ltb, eq-eqb, ne-eqb}
+use Rattle.turn.specs.declared.Turn.{Turn}
+use Rattle.turn.specs.declared.Turn.the-variants.{ThreeQuarter, General}
+use Rattle.turn.specs.declared.inner.lookup.Entry.{Entry}
+use Rattle.turn.specs.Turns.{plain, exchanged, mirrored, entryOf, rounded, quartersOn, numbersAt, quarters, turnAt}
+use Rattle.turn.specs.Rule.{cosine, sine}
+use Rattle.turn.specs.Calls.{House}
+use Rattle.turn.proofs.Rule.{counts, Some, entries}
+use Rattle.turn.proofs.Nearest.{neg-round}
+
+-- ---- entries
+
+-- a rest up to 840 is an entry, one above it an entry exchanged
+module _ (index : ℕ) where
+  by-mirror : (b : Bool) → ltb 840 (index % 1680) ≡ b
+      → entryOf index ≡ cond b (exchanged (index / 1680) (1680 - index % 1680)) (plain (index / 1680) (index % 1680))
+  unfolding entryOf mirrored
+  by-mirror b e = simp e
+
+  pub entry-plain : index % 1680 ≤ 840 → plain (index / 1680) (index % 1680) ≡ entryOf index
+  entry-plain h = sym (by-mirror false (le-ltb 840 (index % 1680) h))
+
+  pub entry-exchanged : 840 < index % 1680 → exchanged (index / 1680) (1680 - index % 1680) ≡ entryOf index
+  entry-exchanged h = sym (by-mirror true (lt-ltb 840 (index % 1680) h))
+
+-- the lists that are lent are the table
+module _ {cs ss : List ℕ} (h : House cs ss) where
+  pub house-long : (length cs ≡ 841) × (length ss ≡ 841)
+  house-long = (ap length (h .cos) ∙ counts .0, ap length (h .sin) ∙ counts .1)
+
+  -- so an entry read from them is the table's
+  pub read-plain : (q b : ℕ) → record { quarter = q; cosine = getD cs b 0; sine = getD ss b 0 } ≡ plain q b
+  unfolding plain
+  read-plain q b =
+      ap₂ (λ (cs ss : List ℕ). record { quarter = q; cosine = getD cs b 0; sine = getD ss b 0 }) (h .cos) (h .sin)
+
+  pub read-exchanged : (q b : ℕ) → record { quarter = q; cosine = getD ss b 0; sine = getD cs b 0 } ≡ exchanged q b
+  unfolding exchanged
+  read-exchanged q b =
+      ap₂ (λ (cs ss : List ℕ). record { quarter = q; cosine = getD ss b 0; sine = getD cs b 0 }) (h .cos) (h .sin)
+
+-- what holds of both numbers of each entry of the table, but perhaps of entry 0, holds of those at an index that is not whole quarters
+abbrev pub Both : (ℕ → Type 0) → Entry → Type 0
+Both P e = P (e .cosine) × P (e .sine)
+
+pub entry-has : (P : ℕ → Type 0) (index : ℕ)
+    → ((b : ℕ) → b ≤ 840 → (b ≡ 0 → index % 1680 ≡ 0) → P (cosine b) × P (sine b)) → Both P (entryOf index)
+unfolding plain exchanged
+entry-has P index each = dite (decLe (index % 1680) 840) low high
+  where
+    low : index % 1680 ≤ 840 → Both P (entryOf index)
+    low h = subst (Both P) (entry-plain index h) (each (index % 1680) h (λ e. e))
+
+    high : (index % 1680 ≤ 840 → ⊥) → Both P (entryOf index)
+    high h =
+        let l = mod-lt index (zero-lt-suc 1679) in
+        let f = each (1680 - index % 1680) (omega arith) (λ e. absurd (omega arith)) in
+        subst (Both P) (entry-exchanged index (omega arith)) (f .1, f .0)
+
+pub entry-fits : (index : ℕ) → (index % 1680 ≡ 0 → ⊥) → Both Some (entryOf index)
+entry-fits index n = entry-has Some index (λ b h z. entries b (some b z) h)
+  where
+    some : (b : ℕ) → (b ≡ 0 → index % 1680 ≡ 0) → 0 < b
+    some zero z = absurd (n (z refl))
+    some (suc b) z = zero-lt-suc b
+
+-- ---- signs
+
+-- a number above 0 is rounded, and then negated
+numbered : (a : ℕ) (x : Float) → 0 < a → x ≡ round binary32 false a (2 ^ 60) → (x ≡ rounded false a) × (neg x ≡ rounded true a)
+unfolding rounded
+numbered zero x p e = absurd (not-suc-le-zero p)
+numbered (suc a) x p e = (e, ap neg e ∙ neg-round binary32 (suc a) (2 ^ 60))
+
+-- the turn with two numbers
+abbrev both : Float × Float → Turn
+both p = General (p .0) (p .1)
+
+-- the f32s of a cosine and a sine under so many whole quarters
+abbrev pub signed : (q : ℕ) → (c s : Float) → Turn
+signed zero c s = General c (neg s)
+signed (suc zero) c s = General (neg s) (neg c)
+signed (suc (suc zero)) c s = General (neg c) s
+signed (suc (suc (suc q))) c s = General s c
+
+signed-is : (q c s : ℕ) (x y : Float) → 0 < c → 0 < s → x ≡ round binary32 false c (2 ^ 60) → y ≡ round binary32 false s (2 ^ 60)
+    → signed q x y ≡ both (quartersOn rounded q c s)
+signed-is q c s x y p r e f = go q (numbered c x p e) (numbered s y r f)
+  where
+    go : (q : ℕ) → (x ≡ rounded false c) × (neg x ≡ rounded true c) → (y ≡ rounded false s) × (neg y ≡ rounded true s)
+        → signed q x y ≡ both (quartersOn rounded q c s)
+    go zero a b = ap₂ General (a .0) (b .1)
+    go (suc zero) a b = ap₂ General (b .1) (a .1)
+    go (suc (suc zero)) a b = ap₂ General (a .1) (b .0)
+    go (suc (suc (suc q))) a b = ap₂ General (b .0) (a .0)
+
+-- ---- the turn at an index
+
+module _ (index : ℕ) where
+  by-rest : (b : Bool) → eqb (index % 1680) 0 ≡ b
+      → turnAt index ≡ cond b (quarters (index / 1680)) (General (numbersAt index .0) (numbersAt index .1))
+  unfolding turnAt
+  by-rest b e = simp e
+
+  pub turn-whole : index % 1680 ≡ 0 → quarters (index / 1680) ≡ turnAt index
+  turn-whole h = sym (by-rest true (eq-eqb (index % 1680) 0 h))
+
+  pub turn-numbers : (index % 1680 ≡ 0 → ⊥) → General (numbersAt index .0) (numbersAt index .1) ≡ turnAt index
+  turn-numbers h = sym (by-rest false (ne-eqb (index % 1680) 0 h))
+
+-- an entry e with its numbers rounded to c and s
+pub turn-general : (index : ℕ) (e : Entry) (c s : Float) → (index % 1680 ≡ 0 → ⊥) → e ≡ entryOf index
+    → c ≡ round binary32 false (e .cosine) (2 ^ 60) → s ≡ round binary32 false (e .sine) (2 ^ 60) → signed (e .quarter) c s ≡ turnAt index
+unfolding numbersAt
+turn-general index e c s n i x y =
+    let f = subst (Both Some) (sym i) (entry-fits index n) in
+    signed-is (e .quarter) (e .cosine) (e .sine) c s (f .0 .0) (f .1 .0) x y
+    ∙ ap (λ (e : Entry). both (quartersOn rounded (e .quarter) (e .cosine) (e .sine))) i
+    ∙ turn-numbers index n
+
+-- ---- three whole quarters, or more
+
+past-two : (n : ℕ) → 2 < n → suc (suc (suc (n - 3))) ≡ n
+past-two n h = omega arith
+
+pub three-quarters : (n : ℕ) → 2 < n → ThreeQuarter ≡ quarters n
+three-quarters n h = ap quarters (past-two n h)
+
+pub signed-three : (n : ℕ) (c s : Float) → 2 < n → General s c ≡ signed n c s
+signed-three n c s h = ap (λ (q : ℕ). signed q c s) (past-two n h)

@@ -1,0 +1,9 @@
+-- Two outcomes that meet a promise are equal. Assumes nothing.
+use Prim.Native.Nat.{ℕ}
+use mathlib.Core.Path.{_≡_}
+use Rattle.refusal.proofs.Unique.{agree}
+use Rattle.turn.specs.declared.Turned.{Turned}
+use Rattle.turn.specs.Calls.{Turns}
+
+pub Turns-one : {t L : ℕ} {r s : Turned} → Turns t L r → Turns t L s → r ≡ s
+Turns-one a b = agree (a .answer) (b .answer)

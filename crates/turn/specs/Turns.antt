@@ -1,0 +1,87 @@
+-- turn(t, L), which is (cos, -sin) of t/L of a circle, from the house table: index, quarter and rest, mirror, whole quarters, rounding.
+-- Assumes nothing.
+use Prim.Native.Nat.{ℕ, zero, suc, _-_, _*_, _/_, _%_, _^_}
+use mathlib.Core.Bool.{Bool, true, false, cond}
+use lib.Dec.{eqb, ltb}
+use lib.Ieee.{Float, binary32, round, ofBits, neg}
+use Rattle.schedule.specs.Stage.{Part}
+use Rattle.turn.specs.declared.Turn.{Turn}
+use Rattle.turn.specs.declared.Turn.the-variants.{Zero, Quarter, Half, ThreeQuarter, General}
+use Rattle.turn.specs.declared.inner.lookup.Entry.{Entry}
+use Rattle.turn.specs.Rule.{cosine, sine}
+
+-- L divides 6,720; 0 does not
+unfoldable pub housed : ℕ → Bool
+housed L = eqb (6720 % L) 0
+
+-- t * 6,720 / L modulo 6,720
+unfoldable pub indexOf : Part → ℕ
+indexOf a = a .t * 6720 / a .L % 6720
+
+-- ---- unrounded: cosine and sine of an index, times 2 ^ 60, but for its whole quarters
+
+-- entry b of the table after q quarters, or with cosine and sine exchanged
+unfoldable pub plain : (q b : ℕ) → Entry
+plain q b = record { quarter = q; cosine = cosine b; sine = sine b }
+
+unfoldable pub exchanged : (q b : ℕ) → Entry
+exchanged q b = record { quarter = q; cosine = sine b; sine = cosine b }
+
+-- q quarters and a rest b below 1,680: above 840 it takes (s, c) of 1,680 - b
+unfoldable pub mirrored : (q b : ℕ) → Entry
+mirrored q b = cond (ltb 840 b) (exchanged q (1680 - b)) (plain q b)
+
+-- an index is a quarter number and a rest
+unfoldable pub entryOf : ℕ → Entry
+entryOf index = mirrored (index / 1680) (index % 1680)
+
+-- ---- rounded
+
+abbrev pub +0 : Float
++0 = ofBits binary32 0
+
+abbrev pub +1 : Float
++1 = ofBits binary32 1065353216
+
+-- a number of a turn, plus or minus a / 2 ^ 60: the nearest f32, ties to even; zero is +0
+unfoldable pub rounded : (minus : Bool) → ℕ → Float
+rounded minus zero = +0
+rounded minus (suc a) = round binary32 minus (suc a) (2 ^ 60)
+
+-- (cos, -sin) when so many whole quarters are applied to a cosine c and a sine s of the rest
+abbrev pub quartersOn {ℓ} : {A : Type ℓ} → (Bool → ℕ → A) → (q c s : ℕ) → A × A
+quartersOn f zero c s = (f false c, f true s)
+quartersOn f (suc zero) c s = (f true s, f true c)
+quartersOn f (suc (suc zero)) c s = (f true c, f false s)
+quartersOn f (suc (suc (suc q))) c s = (f false s, f false c)
+
+-- the two numbers at an index
+unfoldable pub numbersAt : ℕ → Float × Float
+numbersAt index = quartersOn rounded (entryOf index .quarter) (entryOf index .cosine) (entryOf index .sine)
+
+-- ---- the turn
+
+-- so many whole quarters
+abbrev pub quarters : ℕ → Turn
+quarters zero = Zero
+quarters (suc zero) = Quarter
+quarters (suc (suc zero)) = Half
+quarters (suc (suc (suc q))) = ThreeQuarter
+
+-- a turn of whole quarters carries no numbers, any other its two
+unfoldable pub turnAt : ℕ → Turn
+turnAt index = cond (eqb (index % 1680) 0) (quarters (index / 1680)) (General (numbersAt index .0) (numbersAt index .1))
+
+-- the turn by t of L parts of a circle
+unfoldable pub turnOf : Part → Turn
+turnOf a = turnAt (indexOf a)
+
+-- ---- its words
+
+-- the two words of a turn: filled as a twiddle, whole quarters are 1, -1 and +0
+unfoldable pub wordsOf : Turn → Float × Float
+wordsOf Zero = (+1, +0)
+wordsOf Quarter = (+0, neg +1)
+wordsOf Half = (neg +1, +0)
+wordsOf ThreeQuarter = (+0, +1)
+wordsOf (General re im) = (re, im)
