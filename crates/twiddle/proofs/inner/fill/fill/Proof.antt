@@ -1,0 +1,87 @@
+-- `twiddle::inner::fill::fill` meets its contract. Assumes nothing.
+use Rattle.twiddle.proofs.Counts.{plan-some}
+use Rattle.twiddle.proofs.Verdicts.{taken, fill-refused, fill-accepted}
+use borrow.Author.Needs.{needs}
+use Rattle.twiddle.proofs.inner.fill.fill.Statement.{statement}
+use Rattle.twiddle.proofs.inner.fill.fill.Tie as tie
+
+lent-requires : tie.Need-lent-requires
+lent-requires c κs = search needs
+
+enum-told : tie.Need-enum-told
+enum-told c = search needs
+
+cosines-requires : tie.Need-cosines-requires
+cosines-requires c κs = search needs
+
+sines-requires : tie.Need-sines-requires
+sines-requires c κs = search needs
+
+slice-aggregate-stages : tie.Need-slice-aggregate-stages
+slice-aggregate-stages c = search needs
+
+slice-aggregate-stages-2 : tie.Need-slice-aggregate-stages-2
+slice-aggregate-stages-2 c = search needs
+
+stages-requires : tie.Need-stages-requires
+stages-requires c κs =
+    let a = c .before .before .before .before .before .before .before .before .before .before .args in
+    let t = taken (a .plan) (a .width) _ _ _ (c .before .before .before .before .before .before .before .lent .ensures) (c .before .before .before .before .before .enum-told .given .1) in (
+      record { cos = c .before .before .before .before .cosines .ensures; sin = c .before .before .before .sines .ensures },
+      record { planned = t .planned; housed = t .housed; width = t .width; long = t .stages },
+    )
+
+slice-aggregate-ends : tie.Need-slice-aggregate-ends
+slice-aggregate-ends c = search needs
+
+slice-aggregate-ends-2 : tie.Need-slice-aggregate-ends-2
+slice-aggregate-ends-2 c = search needs
+
+ends-requires : tie.Need-ends-requires
+ends-requires c κs =
+    let a = c .before .before .before .before .before .before .before .before .before .before .before .before .before .before .before .before .args in
+    let t = taken (a .plan) (a .width) _ _ _ (c .before .before .before .before .before .before .before .before .before .before .before .before .before .lent .ensures) (c .before .before .before .before .before .before .before .before .before .before .before .enum-told .given .1) in (
+      record { cos = c .before .before .before .before .before .before .before .before .before .before .cosines .ensures; sin = c .before .before .before .before .before .before .before .before .before .sines .ensures },
+      record { some = plan-some (a .plan) (t .planned); housed = t .housed; long = t .ends },
+    )
+
+enum-known-why : tie.Need-enum-known-why
+enum-known-why c = search needs
+
+same-length : tie.Need-same-length
+same-length c = search needs
+
+same-length-2 : tie.Need-same-length-2
+same-length-2 c = search needs
+
+returns : tie.Need-returns
+returns c =
+    let a = c .before .before .before .before .before .before .before .before .before .before .before .before .before .before .before .before .before .before .before .args in
+    let told = c .before .before .before .before .before .before .before .before .before .before .before .before .before .before .before .before .lent .ensures in
+    let accepted = c .before .before .before .before .before .before .before .before .before .before .before .before .before .before .enum-told .given .1 in
+    fill-accepted (a .direction) (a .plan) (a .width) (a .stage .now, a .end .now) _ told accepted _ _ (c .before .before .before .before .before .before .before .before .stages .ensures) (c .before .before .ends .ensures)
+
+returns-2 : tie.Need-returns-2
+returns-2 c =
+    let a = c .before .before .before .before .before .before .args in
+    fill-refused (a .direction) (a .plan) (a .width) (a .stage .now, a .end .now) _ (c .before .before .before .lent .ensures) _ (c .before .why .given .1)
+
+pub fill-spec : {M : Type 1} → statement M
+fill-spec =
+    tie.close
+    (tie.spec
+    lent-requires
+    enum-told
+    cosines-requires
+    sines-requires
+    slice-aggregate-stages
+    slice-aggregate-stages-2
+    stages-requires
+    slice-aggregate-ends
+    slice-aggregate-ends-2
+    ends-requires
+    enum-known-why
+    same-length
+    same-length-2
+    returns
+    returns-2)

@@ -1,0 +1,29 @@
+-- Where a twiddle stands among those of its stage: M iterations of radix r, packed for width W. Assumes nothing.
+use Prim.Native.Nat.{ℕ, suc, _+_, _-_, _*_, _/_, _%_}
+use mathlib.Core.Bool.{cond}
+use lib.Dec.{ltb}
+
+-- how many iterations stand in whole lanes of W; those after them stand one by one
+abbrev pub inLanes : (M W : ℕ) → ℕ
+inLanes M W = M / W * W
+
+-- where twiddle k of iteration i stands, k from 1 to r - 1
+unfoldable pub place : (M r W i k : ℕ) → ℕ
+place M r W i k =
+    cond (ltb i (inLanes M W))
+    (i / W * (W * (r - 1)) + (k - 1) * W + i % W)
+    (i * (r - 1) + (k - 1))
+
+-- the iteration of the twiddle at place p
+unfoldable pub iterationAt : (M r W p : ℕ) → ℕ
+iterationAt M r W p =
+    cond (ltb p (inLanes M W * (r - 1)))
+    (p / (W * (r - 1)) * W + p % W)
+    (p / (r - 1))
+
+-- which of its iteration's twiddles that is
+unfoldable pub numberAt : (M r W p : ℕ) → ℕ
+numberAt M r W p =
+    cond (ltb p (inLanes M W * (r - 1)))
+    (suc (p % (W * (r - 1)) / W))
+    (suc (p % (r - 1)))

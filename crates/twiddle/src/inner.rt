@@ -1,0 +1,6 @@
+// What other crates call under a proof, and the parts of a filling.
+pub mod check;
+pub mod ends;
+pub mod fill;
+pub mod stages;
+pub mod words;

@@ -1,0 +1,32 @@
+// Filling, in either direction.
+use crate::inner::check::lent;
+use crate::inner::ends::Direction;
+use crate::inner::ends::ends;
+use crate::inner::stages::stages;
+use plan::Record;
+use refusal::Verdict;
+use turn::inner::table::cosines;
+use turn::inner::table::sines;
+ghost use Rattle.twiddle.specs.Calls.{Fills};
+
+// The twiddles of a plan, packed for a width; the table is made once and lent.
+pub fn fill(
+    direction: Direction,
+    plan: Record,
+    width: usize,
+    stage: &mut [f32],
+    end: &mut [f32],
+) -> Verdict
+    ensures { λ r. ⌜ Fills direction plan width (now (stage .entry), now (end .entry)) r (now (stage .exit), now (end .exit)) ⌝ }
+{
+    match lent(plan, width, stage.len(), end.len()) {
+        Verdict::Accepted => {
+            let c = cosines();
+            let s = sines();
+            stages(&c, &s, plan, width, stage);
+            ends(&c, &s, direction, plan.n, end);
+            Verdict::Accepted
+        }
+        Verdict::Refused(why) => Verdict::Refused(why),
+    }
+}
