@@ -1,4 +1,4 @@
-/* ladlespindle.h: planning of spectra, and their stages in remainders, for a C host.
+/* ladlespindle.h: planning of spectra, their twiddles, and their stages in remainders, for a C host.
  *
  * Every function takes whatever it is lent, ends, and allocates nothing. A list is bytes, one radix each: 2, 3, 4, 5,
  * 7 or 8. Its product is the length n, even and at most 8,192.
@@ -30,7 +30,7 @@ enum ladlespindle_refusal {
     LADLESPINDLE_ODD = 4,         /* the product is odd */
     LADLESPINDLE_NOT_PLANNED = 5, /* the plan is not one that planning gives */
     LADLESPINDLE_WIDTH = 6,       /* the width is not 1, 2 or 4 */
-    LADLESPINDLE_NOT_HOUSED = 7,  /* the house table does not serve the length */
+    LADLESPINDLE_NOT_HOUSED = 7,  /* the house table does not serve the length, or the parts of a circle */
     LADLESPINDLE_LENGTH = 8,      /* a lent length is wrong; place: 0 input, 1 output, 2 scratch, 3 stage, 4 end twiddles */
     LADLESPINDLE_NUMBER = 9,      /* a number is not finite or too large; place: its index */
     LADLESPINDLE_TWIDDLE = 10,    /* a twiddle's number is not finite or above 1; place: its index, stage then end */
@@ -71,6 +71,14 @@ typedef struct {
     uint32_t number;
     size_t place;
 } ladlespindle_answer;
+
+/* The same of a single turn, with its cosine and its negated sine, +0 on a refusal. */
+typedef struct {
+    uint32_t number;
+    size_t place;
+    float re;
+    float im;
+} ladlespindle_turn_words;
 
 /* The same of a run, with the buffer that holds its result: 0 for Data, 1 for Scratchpad, 0 on a refusal. */
 typedef struct {
@@ -135,6 +143,20 @@ uint32_t ladlespindle_accepts(ladlespindle_record plan);
  * Refused with 2 or 3: places run on from the in-list to the out-list, and a scaled out-product that is too large has
  * the joined length for its place; every other number is then 0. */
 ladlespindle_scaling ladlespindle_scale(const uint8_t *in_list, size_t in_length, const uint8_t *out_list, size_t out_length);
+
+/* The turn by t of l parts of a circle, t being any number: its cosine and its negated sine, each the nearest f32. At
+ * whole quarters the words are 1, -1 and +0.
+ * Refused with 7 unless l divides 6,720. */
+ladlespindle_turn_words ladlespindle_turn(uint32_t t, uint32_t l);
+
+/* The twiddles of a plan for the forward and for the inverse transform, two words each: those of the stages, packed for a
+ * width of 1, 2 or 4, and those of the ends. The lengths are twice ladlespindle_stage_twiddles and twice
+ * ladlespindle_end_twiddles. Refused, in this order, with 5, 6, 7 (the plan's length does not divide 6,720) and 8 (place 3:
+ * stage; 4: end). */
+ladlespindle_answer ladlespindle_fill_forward(ladlespindle_record plan, size_t width, float *stage, size_t stage_length, float *end,
+                                              size_t end_length);
+ladlespindle_answer ladlespindle_fill_inverse(ladlespindle_record plan, size_t width, float *stage, size_t stage_length, float *end,
+                                              size_t end_length);
 
 /* In remainders modulo m, from 2 to 4,294,967,295, a base w below m whose power `half` leaves 1 stands for one part of a
  * circle of `half` parts. Both functions lend two buffers of `half` numbers, below m where they are read. They refuse, in

@@ -1,3 +1,3 @@
 -- The definitions that contracts cite.
 pub mod Exports
-pub mod Remainders
+pub mod Calls

@@ -1,15 +1,16 @@
-// The functions that a host written in C links: planning, its refusals, counts and scaling, on lists of radices; and the stages in
-// remainders, on a plan and buffers of whole numbers.
+// The functions that a host written in C links: planning, its refusals, counts and scaling, on lists of radices; a single turn; the
+// filling of twiddles; and the stages in remainders, on a plan and buffers of whole numbers.
 use plan::Radices;
 use plan::Record;
 use plan::inner::stages::result_in;
 use refusal::Verdict;
+use turn::inner::words::words_of;
 ghost use mathlib.Core.Path.{_≡_};
 ghost use lib.ListN.{getD};
 ghost use Rattle.ladlespindle.specs.Exports.{GivesPlan, GivesNumber, GivesPlace, GivesLength, GivesHalf, GivesStages, GivesMerges, GivesRadix, GivesLetter, GivesStageTwiddles, GivesEndTwiddles, GivesResult, GivesAcceptance, GivesScaling};
 ghost use Rattle.refusal.specs.Refusal.{left};
 ghost use Rattle.plan.specs.Counts.{resultIn, bufferNumber};
-ghost use Rattle.ladlespindle.specs.Remainders.{GivesRemainderStage, GivesRemainderRun};
+ghost use Rattle.ladlespindle.specs.Calls.{GivesTurn, GivesForward, GivesInverse, GivesRemainderStage, GivesRemainderRun};
 
 // What scaling answers, with the refusal as two numbers.
 #[repr(C)]
@@ -28,6 +29,15 @@ pub struct Scaling {
 pub struct Answer {
     pub number: u32,
     pub place: usize,
+}
+
+// The same of a single turn, with its two words, +0 on a refusal.
+#[repr(C)]
+pub struct TurnWords {
+    pub number: u32,
+    pub place: usize,
+    pub re: f32,
+    pub im: f32,
 }
 
 // The same of a run, with the buffer that holds the result: 0 for Data and on a refusal, 1 for Scratchpad.
@@ -166,6 +176,67 @@ pub extern "C" fn ladlespindle_scale(in_list: &[u8], out_list: &[u8]) -> Scaling
         out_product: scaled.out_product,
         in_list: grown_in,
         out_list: grown_out,
+    }
+}
+
+// The words of the turn by t of l parts of a circle: its cosine and its negated sine.
+#[no_mangle]
+pub extern "C" fn ladlespindle_turn(t: u32, l: u32) -> TurnWords
+    ensures { λ r. ⌜ GivesTurn t l r ⌝ }
+{
+    let turned = turn::turn_of(t, l);
+    let turn = turned.turn;
+    let verdict = turned.verdict;
+    match verdict {
+        Verdict::Accepted => {
+            let words = words_of(turn);
+            TurnWords {
+                number: 0,
+                place: 0,
+                re: words.re,
+                im: words.im,
+            }
+        }
+        Verdict::Refused(why) => TurnWords {
+            number: why.number(),
+            place: why.place(),
+            re: 0.0,
+            im: 0.0,
+        },
+    }
+}
+
+// The twiddles of a plan for the forward transform, packed for a width.
+#[no_mangle]
+pub extern "C" fn ladlespindle_fill_forward(
+    plan: Record,
+    width: usize,
+    stage: &mut [f32],
+    end: &mut [f32],
+) -> Answer
+    ensures { λ r. ⌜ GivesForward plan width (now (stage .entry), now (end .entry)) r (now (stage .exit), now (end .exit)) ⌝ }
+{
+    let verdict = twiddle::fill_forward(plan, width, stage, end);
+    Answer {
+        number: verdict.number(),
+        place: verdict.place(),
+    }
+}
+
+// The same for the inverse transform.
+#[no_mangle]
+pub extern "C" fn ladlespindle_fill_inverse(
+    plan: Record,
+    width: usize,
+    stage: &mut [f32],
+    end: &mut [f32],
+) -> Answer
+    ensures { λ r. ⌜ GivesInverse plan width (now (stage .entry), now (end .entry)) r (now (stage .exit), now (end .exit)) ⌝ }
+{
+    let verdict = twiddle::fill_inverse(plan, width, stage, end);
+    Answer {
+        number: verdict.number(),
+        place: verdict.place(),
     }
 }
 

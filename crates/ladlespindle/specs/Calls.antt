@@ -1,0 +1,61 @@
+-- What the exported functions that are no planning answer, and what they leave in the buffers they are lent. Assumes nothing.
+use Prim.Native.Nat.{ℕ}
+use mathlib.Core.Path.{_≡_}
+use mathlib.Core.List.{List}
+use lib.Ieee.{Float}
+use lib.ListN.{length}
+use Rattle.refusal.specs.Refusal.{numberIn, placeIn, left}
+use Rattle.refusal.specs.declared.Verdict.{Verdict}
+use Rattle.plan.specs.Counts.{resultIn, bufferNumber}
+use Rattle.plan.specs.declared.Record.{Record}
+use Rattle.schedule.specs.Buffers.{Two}
+use Rattle.turn.specs.Calls.{part, turnVerdict}
+use Rattle.turn.specs.Turns.{+0, turnOf, wordsOf}
+use Rattle.twiddle.specs.Calls.{Slices, fillVerdict, filled}
+use Rattle.twiddle.specs.declared.inner.ends.Direction.{Direction}
+use Rattle.twiddle.specs.declared.inner.ends.Direction.the-variants.{Forward, Inverse}
+use Rattle.remainder.specs.Calls.{stageVerdict, stageOf, runVerdict, runOf}
+use Rattle.ladlespindle.specs.declared.Answer.{Answer}
+use Rattle.ladlespindle.specs.declared.Ran.{Ran}
+use Rattle.ladlespindle.specs.declared.TurnWords.{TurnWords}
+
+-- a verdict as two numbers
+abbrev pub answered : Verdict → Answer
+answered v = record { number = numberIn v; place = placeIn v }
+
+-- what a call with verdict v promises of its answer r, and of what stands afterwards in what was lent
+pub record Gives {A : Type 0} (v : Verdict) (made lent : A) (r : Answer) (after : A) : Type 0 where
+  pub answer : r ≡ answered v
+  pub cells : after ≡ left v made lent
+
+-- ---- turns and twiddles
+
+-- a verdict as two numbers, and two words, which are +0 on a refusal
+abbrev pub worded : Verdict → Float × Float → TurnWords
+worded v w = record { number = numberIn v; place = placeIn v; re = left v (w .0) +0; im = left v (w .1) +0 }
+
+-- what `ladlespindle_turn` promises of its answer
+pub record GivesTurn (t L : ℕ) (r : TurnWords) : Type 0 where
+  pub answer : r ≡ worded (turnVerdict L) (wordsOf (turnOf (part t L)))
+
+-- what `ladlespindle_fill_forward` and `ladlespindle_fill_inverse` promise of the answer r and of what is left in both slices
+abbrev pub GivesForward : Record → (W : ℕ) → Slices → Answer → Slices → Type 0
+GivesForward p W before r after = Gives (fillVerdict p W (length (before .0)) (length (before .1))) (filled Forward p W) before r after
+
+abbrev pub GivesInverse : Record → (W : ℕ) → Slices → Answer → Slices → Type 0
+GivesInverse p W before r after = Gives (fillVerdict p W (length (before .0)) (length (before .1))) (filled Inverse p W) before r after
+
+-- ---- remainders
+
+-- what `ladlespindle_remainder_stage` promises of its answer r and of what is left in the other buffer
+abbrev pub GivesRemainderStage : Record → (j m w : ℕ) → (input other : List ℕ) → Answer → List ℕ → Type 0
+GivesRemainderStage p j m w input other r after = Gives (stageVerdict p j m w input (length other)) (stageOf p j m w input) other r after
+
+-- the verdict of a run of so many stages as two numbers, with the number of the buffer that holds the result, 0 on a refusal
+abbrev pub ranAs : Verdict → ℕ → Ran
+ranAs v count = record { number = numberIn v; place = placeIn v; buffer = left v (bufferNumber (resultIn count)) 0 }
+
+-- what `ladlespindle_remainder_run` promises of its answer r and of what is left in both buffers
+pub record GivesRemainderRun (p : Record) (m w : ℕ) (before : Two ℕ) (r : Ran) (after : Two ℕ) : Type 0 where
+  pub answer : r ≡ ranAs (runVerdict p m w (before .0) (length (before .1))) (p .count)
+  pub cells : after ≡ left (runVerdict p m w (before .0) (length (before .1))) (runOf p m w before) before
