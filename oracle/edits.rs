@@ -1,4 +1,4 @@
-//! The edits that scalar width and the missing kernels need, and the program that makes them.
+//! The edits that the missing kernels, a width to choose and the trace of places need, and the program that makes them.
 //!
 //! `edits FROM TO` copies the original's files from FROM/src to TO and edits the copies. An edit names a file, the
 //! text that it expects there exactly once, and the text that takes its place. Nothing else is changed: code that
@@ -80,20 +80,55 @@ pub use resampler_fir::{Attenuation, Latency, ResamplerFir};
     factors: Vec<Radix>,
     stockham_twiddles: Vec<Complex32>,
     real_complex_expansion_twiddles: Vec<Complex32>,
+    complex_real_reduction_twiddles: Vec<Complex32>,
 "#,
         new: r#"    pub(crate) n: usize,
     pub(crate) n2: usize,
     pub(crate) factors: Vec<Radix>,
     pub(crate) stockham_twiddles: Vec<Complex32>,
     pub(crate) real_complex_expansion_twiddles: Vec<Complex32>,
+    pub(crate) complex_real_reduction_twiddles: Vec<Complex32>,
 "#,
     },
-    // Scalar width: the layout of the twiddles, the driver and both ends.
+    Edit {
+        file: "fft/radix_fft.rs",
+        old: "\n    fn compute_twiddle_f32(",
+        new: "\n    pub(crate) fn compute_twiddle_f32(",
+    },
+    // The layout of the twiddles is the one asked for, scalar unless another is.
     Edit {
         file: "fft/radix_fft.rs",
         old: "let simd_width = Self::detect_simd_width();",
-        new: "let simd_width = SimdWidth::Scalar;",
+        new: r#"let simd_width = match crate::asked::width() {
+            4 => SimdWidth::Width4,
+            2 => SimdWidth::Width2,
+            _ => SimdWidth::Scalar,
+        };"#,
     },
+    // Places are told apart: in a trace a stage has as many columns as iterations, and its twiddles are codes.
+    // The packing between these edits is as it was, and so is all of it outside a trace.
+    Edit {
+        file: "fft/radix_fft.rs",
+        old: "            // Generate base twiddles for this stage (one per column).\n",
+        new: r#"            {
+            let stride = crate::asked::columns(stride, iterations);
+            // Generate base twiddles for this stage (one per column).
+"#,
+    },
+    Edit {
+        file: "fft/radix_fft.rs",
+        old: "base_twiddles.push(Self::compute_twiddle_f32(col * k, stage_size));",
+        new: r#"base_twiddles.push(
+                        crate::asked::code(stage_index, col, k)
+                            .unwrap_or_else(|| Self::compute_twiddle_f32(col * k, stage_size)),
+                    );"#,
+    },
+    Edit {
+        file: "fft/radix_fft.rs",
+        old: "            stride = stage_size;\n        }\n\n        twiddles\n",
+        new: "            }\n            stride = stage_size;\n        }\n\n        twiddles\n",
+    },
+    // Scalar width: the driver and both ends.
     Edit {
         file: "fft/radix_fft.rs",
         old: "        let (postprocess_fft, preprocess_ifft): (PostprocessFn, PreprocessFn) =\n",

@@ -1,9 +1,11 @@
-//! The oracle: the original Rust at scalar width, asked case by case. It stands in place of the original's crate root.
+//! The oracle: the original Rust, asked case by case, at scalar width but for the twiddles. It stands in place of the
+//! original's crate root.
 //!
-//! `oracle planning` and `oracle scaling` print a line for each case, and `oracle sample planning` and
-//! `oracle sample scaling` the recorded ones among them; text.rs says what stands in a line. The counts go to standard error.
+//! `oracle KIND` prints a record for each case, and `oracle sample KIND` the recorded ones among them: planning and scaling,
+//! and of twiddles layouts, places, fillings and words. text.rs says what stands in a record. The counts go to standard error.
 extern crate alloc;
 
+mod asked;
 mod butterflies;
 #[allow(dead_code, unused_imports, unused_macros)]
 mod fft;
@@ -15,6 +17,7 @@ mod rust;
 mod scaling;
 mod table;
 mod text;
+mod twiddles;
 
 use fft::{Complex32, Radix};
 use rates::{SampleRate, SampleRateFamily};
@@ -47,13 +50,20 @@ fn main() -> std::io::Result<()> {
             .into_iter()
             .map(|case| (case.line(), case.is_refused()))
     };
+    let twiddles = |records: Vec<String>| records.into_iter().map(|record| (record, false));
     match words.as_slice() {
         ["planning"] => print("planning", planning(planning::cases())),
         ["scaling"] => print("scaling", scaling(scaling::cases())),
         ["sample", "planning"] => print("recorded planning", planning(planning::sample())),
         ["sample", "scaling"] => print("recorded scaling", scaling(scaling::sample())),
+        [kind @ ("layouts" | "places" | "fillings" | "words")] => {
+            print(kind, twiddles(twiddles::records(kind)))
+        }
+        ["sample", kind @ ("layouts" | "places" | "fillings" | "words")] => {
+            print(&format!("recorded {kind}"), twiddles(twiddles::sample(kind)))
+        }
         _ => {
-            eprintln!("usage: oracle [sample] planning|scaling");
+            eprintln!("usage: oracle [sample] planning|scaling|layouts|places|fillings|words");
             std::process::exit(2)
         }
     }

@@ -7,6 +7,25 @@
 //! A scaling line has 88 bytes: in-list 16, out-list 16, number 2, place 2, p 3, in-product 4, out-product 4,
 //! count of the scaled in-list 2, that list 13, count of the scaled out-list 2, that list 13.
 //!
+//! Of twiddles, F is the forward direction and I the inverse; a word is the bits of an f32, in hexadecimal.
+//!
+//! A layout's line has 36 bytes: lent list 16, width 1, twiddles of the stages 5, checksum 10. The checksum is taken over
+//! where each twiddle stands among those of its stage, by stages from the second on, iterations and numbers.
+//!
+//! Places start with a line of 25 bytes: lent list 16, width 1, twiddles of the stages 5. A line of 7 bytes follows for each
+//! place, in the original's order, with what stands there: iteration 4, number 1 (from 1 to r - 1).
+//!
+//! A filling's line has 99 bytes: lent list 16, width 1, direction 1, words of the stages 5, words of the ends 4, first and
+//! last word of the stages 8 each, first and last word of the ends 8 each (dots where there is none), how many twiddles of
+//! the stages are turned by no, one, two and three whole quarters 4 each, checksum 10. The checksum is taken over the words
+//! of the stages and then of the ends. The words are the original's but for those of whole quarters, which are put right:
+//! each is held to the one that is listed for its quarter, and the exact word takes its place.
+//!
+//! Words start with a line of 32 bytes: lent list 16, width 1, direction 1, words of the stages 5, words of the ends 4. A line
+//! of 9 bytes follows for each word of the stages and then of the ends, all as the original has them.
+//!
+//! A checksum starts from 0; each number x takes a sum s to 31 s + x modulo 4,294,967,291.
+//!
 //! Numbers are decimal with zeros in front. A list has a character for each byte and `.` where there is none: a digit
 //! stands for its own value, a capital letter for its own byte in ASCII, a to y for 10, 20 and so on to 250, and z for 255.
 use crate::lists::RADICES;
@@ -52,4 +71,9 @@ pub fn number(value: usize, width: usize) -> String {
     let text = format!("{value:0width$}");
     assert!(text.len() == width, "{value} does not fit {width} columns");
     text
+}
+
+/// A word in hexadecimal, or dots where there is none.
+pub fn word(bits: Option<&u32>) -> String {
+    bits.map_or(".".repeat(8), |bits| format!("{bits:08x}"))
 }

@@ -2,5 +2,6 @@
 pub mod check;
 pub mod ends;
 pub mod fill;
+pub mod places;
 pub mod stages;
 pub mod words;

@@ -1,0 +1,55 @@
+-- `replay_twiddles::words::follow_end` is safe and ends: the measure is how many words are left. Assumes nothing.
+use Prim.Native.Nat.{_-_, _≤_}
+use borrow.Author.Needs.{needs}
+use lib.ListN.{length}
+use Rattle.replay_twiddles.proofs.words.follow_end.Statement.{statement}
+use Rattle.replay_twiddles.proofs.words.follow_end.Tie as tie
+
+abbrev Inv-loop : tie.InvT-loop
+Inv-loop words fd is-same₀ i₀ is-same i = i ≤ length words
+
+abbrev μ-loop : tie.MeasureT-loop
+μ-loop words fd is-same₀ i₀ is-same i = length words - i
+
+loop-holds : tie.Need-loop-holds Inv-loop μ-loop
+loop-holds c = search needs
+
+mul-bits : tie.Need-mul-bits Inv-loop μ-loop
+mul-bits c = search needs
+
+shared-slice-read-bits : tie.Need-shared-slice-read-bits Inv-loop μ-loop
+shared-slice-read-bits c = search needs
+
+bits-requires : tie.Need-bits-requires Inv-loop μ-loop
+bits-requires c κs = search needs
+
+follows-requires : tie.Need-follows-requires Inv-loop μ-loop
+follows-requires c κs = search needs
+
+add-i : tie.Need-add-i Inv-loop μ-loop
+add-i c = search needs
+
+loop-less : tie.Need-loop-less Inv-loop μ-loop
+loop-less c = search needs
+
+loop-again : tie.Need-loop-again Inv-loop μ-loop
+loop-again c = search needs
+
+returns : tie.Need-returns Inv-loop μ-loop
+returns c = search needs
+
+pub follow-end-spec : {M : Type 1} → statement M
+follow-end-spec =
+    tie.close
+    (tie.spec
+    Inv-loop
+    μ-loop
+    loop-holds
+    mul-bits
+    shared-slice-read-bits
+    bits-requires
+    follows-requires
+    add-i
+    loop-less
+    loop-again
+    returns)
