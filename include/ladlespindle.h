@@ -158,6 +158,13 @@ ladlespindle_answer ladlespindle_fill_forward(ladlespindle_record plan, size_t w
 ladlespindle_answer ladlespindle_fill_inverse(ladlespindle_record plan, size_t width, float *stage, size_t stage_length, float *end,
                                               size_t end_length);
 
+/* Stage `number` of a plan, counted from 0, in floats: the cells of the input, two numbers each, make those of the output. The
+ * stage's own twiddles are lent, packed for a width of 1, 2 or 4: two numbers for each of (half / r) * (r - 1), r being its
+ * radix; none for stage 0. Input and output hold n numbers each. Refused, in this order, with 5, 15, 6, 8 (place 0: input; 1:
+ * output; 3: twiddles), 9 (a number of the input above 2^48 in magnitude or not finite) and 10 (one of the twiddles above 1). */
+ladlespindle_answer ladlespindle_stage(ladlespindle_record plan, size_t number, size_t width, const float *input, size_t input_length,
+                                       float *output, size_t output_length, const float *twiddles, size_t twiddles_length);
+
 /* In remainders modulo m, from 2 to 4,294,967,295, a base w below m whose power `half` leaves 1 stands for one part of a
  * circle of `half` parts. Both functions lend two buffers of `half` numbers, below m where they are read. They refuse, in
  * this order, with 5, 15 (a stage only), 11, 12, 8 (place 0: input or data; 2: other or scratch) and 13 (place: the index).

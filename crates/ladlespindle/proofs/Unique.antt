@@ -68,7 +68,7 @@ pub one-acceptance : (plan : Record) (a b : ℕ) → GivesAcceptance plan a → 
 one-acceptance plan a b p q =
     same-bit a b (p .bit) (q .bit) (λ (e : a ≡ 1). q .one .1 (p .one .0 e)) (λ (e : b ≡ 1). p .one .1 (q .one .0 e))
 
--- `ladlespindle_fill_forward`, `ladlespindle_fill_inverse`, `ladlespindle_remainder_stage`
+-- `ladlespindle_fill_forward`, `ladlespindle_fill_inverse`, `ladlespindle_stage`, `ladlespindle_remainder_stage`
 pub one-given : {A : Type 0} (v : Verdict) (made lent : A) (a b : Answer) (x y : A) → Gives v made lent a x → Gives v made lent b y → (a ≡ b) × (x ≡ y)
 one-given v made lent a b x y p q = (same (p .answer) (q .answer), same (p .cells) (q .cells))
 

@@ -14,6 +14,8 @@ use Rattle.turn.specs.Turns.{+0, turnOf, wordsOf}
 use Rattle.twiddle.specs.Calls.{Slices, fillVerdict, filled}
 use Rattle.twiddle.specs.declared.inner.ends.Direction.{Direction}
 use Rattle.twiddle.specs.declared.inner.ends.Direction.the-variants.{Forward, Inverse}
+use Rattle.stage.specs.Calls as Floats
+use Rattle.stage.specs.Floats.{stageOf as stageWords}
 use Rattle.remainder.specs.Calls.{stageVerdict, stageOf, runVerdict, runOf}
 use Rattle.ladlespindle.specs.declared.Answer.{Answer}
 use Rattle.ladlespindle.specs.declared.Ran.{Ran}
@@ -44,6 +46,13 @@ GivesForward p W before r after = Gives (fillVerdict p W (length (before .0)) (l
 
 abbrev pub GivesInverse : Record → (W : ℕ) → Slices → Answer → Slices → Type 0
 GivesInverse p W before r after = Gives (fillVerdict p W (length (before .0)) (length (before .1))) (filled Inverse p W) before r after
+
+-- ---- float stages
+
+-- what `ladlespindle_stage` promises of its answer r and of what is left in the output
+abbrev pub GivesStage : Record → (j W : ℕ) → (input output twiddles : List Float) → Answer → List Float → Type 0
+GivesStage p j W input output twiddles r after =
+    Gives (Floats.stageVerdict p j W input (length output) twiddles) (stageWords p j W twiddles input) output r after
 
 -- ---- remainders
 

@@ -1,5 +1,5 @@
 // The functions that a host written in C links: planning, its refusals, counts and scaling, on lists of radices; a single turn; the
-// filling of twiddles; and the stages in remainders, on a plan and buffers of whole numbers.
+// filling of twiddles; a stage in floats; and the stages in remainders, on a plan and buffers of whole numbers.
 use plan::Radices;
 use plan::Record;
 use plan::inner::stages::result_in;
@@ -10,7 +10,7 @@ ghost use lib.ListN.{getD};
 ghost use Rattle.ladlespindle.specs.Exports.{GivesPlan, GivesNumber, GivesPlace, GivesLength, GivesHalf, GivesStages, GivesMerges, GivesRadix, GivesLetter, GivesStageTwiddles, GivesEndTwiddles, GivesResult, GivesAcceptance, GivesScaling};
 ghost use Rattle.refusal.specs.Refusal.{left};
 ghost use Rattle.plan.specs.Counts.{resultIn, bufferNumber};
-ghost use Rattle.ladlespindle.specs.Calls.{GivesTurn, GivesForward, GivesInverse, GivesRemainderStage, GivesRemainderRun};
+ghost use Rattle.ladlespindle.specs.Calls.{GivesTurn, GivesForward, GivesInverse, GivesStage, GivesRemainderStage, GivesRemainderRun};
 
 // What scaling answers, with the refusal as two numbers.
 #[repr(C)]
@@ -234,6 +234,25 @@ pub extern "C" fn ladlespindle_fill_inverse(
     ensures { λ r. ⌜ GivesInverse plan width (now (stage .entry), now (end .entry)) r (now (stage .exit), now (end .exit)) ⌝ }
 {
     let verdict = twiddle::fill_inverse(plan, width, stage, end);
+    Answer {
+        number: verdict.number(),
+        place: verdict.place(),
+    }
+}
+
+// Stage `number` of a plan in floats, with its own twiddles packed for a width.
+#[no_mangle]
+pub extern "C" fn ladlespindle_stage(
+    plan: Record,
+    number: usize,
+    width: usize,
+    input: &[f32],
+    output: &mut [f32],
+    twiddles: &[f32],
+) -> Answer
+    ensures { λ r. ⌜ GivesStage plan number width (now (input .entry)) (now (output .entry)) (now (twiddles .entry)) r (now (output .exit)) ⌝ }
+{
+    let verdict = stage::stage(plan, number, width, input, output, twiddles);
     Answer {
         number: verdict.number(),
         place: verdict.place(),

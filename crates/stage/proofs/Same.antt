@@ -1,0 +1,148 @@
+-- A stage and a run rest on the twiddles that they read, and on no others. Assumes nothing.
+use Prim.Native.Nat.{ℕ, zero, suc, _+_, _-_, _*_, _/_, _%_, _≤_, _<_}
+use native.Mathlib.Nat.{le-of-lt, zero-add, add-suc, suc-add}
+use native.Mathlib.Omega.{arith}
+use mathlib.Core.Path.{_≡_, refl, sym, ap, ap₂, _∙_}
+use mathlib.Core.Bool.{Bool, true, false}
+use mathlib.Core.List.{List, _∷_}
+use lib.Dec.{eqb}
+use lib.Ieee.{Float, nan}
+use lib.ListN.{length, getD, drop}
+use lib.Seq.{getD-take, getD-drop}
+use borrow.Author.Tests.{eqb-true}
+use Rattle.plan.specs.Counts.{radix, stride, twiddleCount, twiddleStart, stageTwiddles, resultIn}
+use Rattle.plan.specs.Lists.{product}
+use Rattle.plan.specs.Record.{isPlanned}
+use Rattle.plan.specs.declared.Record.{Record}
+use Rattle.plan.proofs.Counts.{count-later}
+use Rattle.schedule.specs.Buffers.{Two, across, alternated, driven, heldIn}
+use Rattle.schedule.specs.Plans.{inUse}
+use Rattle.schedule.specs.Stage.{tabulate, iteration, place as placeOf, twiddledIn, read, plain, output, stageBy, stage, run}
+use Rattle.schedule.proofs.Buffers.{sourceBy, source-run, held}
+use Rattle.schedule.proofs.Cells.{iteration-lt}
+use Rattle.schedule.proofs.Plans.{use-parts, use-radix, use-radix-some, use-stride-some}
+use Rattle.twiddle.specs.Places.{place}
+use Rattle.stage.specs.declared.inner.complex.Complex.{Complex}
+use Rattle.stage.specs.Complexes.{cx, times, blank, cell, paired, flat}
+use Rattle.stage.specs.Floats.{floats, lentAt, stageOf}
+use Rattle.stage.specs.Runs.{ownOf, stageIn, runOf, lentTo}
+use Rattle.stage.proofs.Flat.{paired-flat, flat-paired}
+use Rattle.stage.proofs.Kernel.{total-same}
+use Rattle.stage.proofs.Widths.{place-lt}
+
+tabulate-same : {A : Type 0} (k n : ℕ) (f g : ℕ → A) → ((i : ℕ) → i < k → f (n + i) ≡ g (n + i)) → tabulate k n f ≡ tabulate k n g
+unfolding tabulate
+tabulate-same zero n f g e = refl
+tabulate-same (suc k) n f g e =
+    let here : n + 0 ≡ n = omega arith in
+    ap₂ (λ x xs. x ∷ xs) (rw here at (e 0 (omega arith))) (tabulate-same k (suc n) f g (λ i l. rw (suc-add, ← add-suc) (e (suc i) (omega arith))))
+
+-- two stages that are lent the same for each iteration and number
+abbrev pub Agree : (M r : ℕ) → (ℕ → ℕ → Complex) → (ℕ → ℕ → Complex) → Type 0
+Agree M r lent lent′ = (i q : ℕ) → i < M → 1 ≤ q → q < r → lent i q ≡ lent′ i q
+
+module _ (lent lent′ : ℕ → ℕ → ℕ → Complex) (j h n s r : ℕ) (parts : h ≡ n * (s * r)) (ps : 0 < s) (pr : 0 < r) (agree : 1 ≤ j → Agree (h / r) r (lent j) (lent′ j)) where
+  read-agree : (c : ℕ → Complex) (i q : ℕ) → i < h / r → q < r → read (floats lent) j (h / r) c i q ≡ read (floats lent′) j (h / r) c i q
+  unfolding read twiddledIn floats
+  read-agree c i zero li lq = refl
+  read-agree c i (suc q) li lq = go j agree
+    where
+      go : (j : ℕ) → (1 ≤ j → Agree (h / r) r (lent j) (lent′ j))
+          → twiddledIn (floats lent) j i (suc q) (c (i + suc q * (h / r))) ≡ twiddledIn (floats lent′) j i (suc q) (c (i + suc q * (h / r)))
+      go zero f = refl
+      go (suc j) f = ap (times (c (i + suc q * (h / r)))) (f (omega arith) i (suc q) li (omega arith) lq)
+
+  pub stage-agree : (xs : List Complex) → stageBy (plain (floats lent)) (floats lent) j h s r xs ≡ stageBy (plain (floats lent′)) (floats lent′) j h s r xs
+  unfolding stageBy output plain floats
+  stage-agree xs =
+      tabulate-same h 0 _ _ (λ k l.
+      let lk : 0 + k < h = omega arith in
+      total-same lent lent′ r _ _ (placeOf s r (0 + k)) (r - 1) (λ q lq. read-agree _ (iteration s r (0 + k)) q (iteration-lt s r (0 + k) ps pr h n parts lk) (omega arith)))
+
+-- ---- a plan
+
+-- all stages of a plan with twiddles
+abbrev pub AgreeAll : Record → (ℕ → ℕ → ℕ → Complex) → (ℕ → ℕ → ℕ → Complex) → Type 0
+AgreeAll p lent lent′ = (j : ℕ) → 1 ≤ j → j < p .count → Agree (p .half / radix (inUse p) j) (radix (inUse p) j) (lent j) (lent′ j)
+
+module _ (p : Record) (e : isPlanned p ≡ true) where
+  -- of stage j
+  abbrev M : ℕ → ℕ
+  M j = p .half / radix (inUse p) j
+
+  pub plan-agree : (lent lent′ : ℕ → ℕ → ℕ → Complex) (j : ℕ) → j < p .count → (1 ≤ j → Agree (M j) (radix (inUse p) j) (lent j) (lent′ j)) → (xs : List Complex)
+      → stage (floats lent) (p .half) (inUse p) j xs ≡ stage (floats lent′) (p .half) (inUse p) j xs
+  unfolding stage
+  plan-agree lent lent′ j l agree xs =
+      stage-agree lent lent′ j (p .half) (product (drop (suc j) (inUse p))) (stride (inUse p) j) (radix (inUse p) j) (use-parts p e j l) (use-stride-some p e j l) (use-radix-some p e j l) agree xs
+
+  pub run-agree : (lent lent′ : ℕ → ℕ → ℕ → Complex) → AgreeAll p lent lent′ → (xs : List Complex) (j : ℕ) → j ≤ p .count
+      → run (floats lent) (p .half) (inUse p) j xs ≡ run (floats lent′) (p .half) (inUse p) j xs
+  unfolding run
+  run-agree lent lent′ agree xs zero l = refl
+  run-agree lent lent′ agree xs (suc j) l =
+      plan-agree lent lent′ j l (λ later. agree j later l) _ ∙ ap (stage (floats lent′) (p .half) (inUse p) j) (run-agree lent lent′ agree xs j (le-of-lt l))
+
+  -- ---- the twiddles of one stage among those of all
+
+  module _ (W : ℕ) (width : 0 < W) (tw : List Float) where
+    own-word : (j w : ℕ) → w < 2 * twiddleCount (p .half) (p .radices) j → getD (ownOf p tw j) w nan ≡ getD tw (2 * twiddleStart (p .half) (p .radices) j + w) nan
+    own-word j w l = getD-take _ _ w nan l ∙ getD-drop (2 * twiddleStart (p .half) (p .radices) j) tw w nan
+
+    own-cell : (j n : ℕ) → n < twiddleCount (p .half) (p .radices) j → cell (ownOf p tw j) n ≡ cell tw (twiddleStart (p .half) (p .radices) j + n)
+    own-cell j n l =
+        ap₂ cx
+        (own-word j (2 * n) (omega arith) ∙ ap (λ (k : ℕ). getD tw k nan) {x = 2 * twiddleStart (p .half) (p .radices) j + 2 * n} {y = 2 * (twiddleStart (p .half) (p .radices) j + n)} (omega arith))
+        (own-word j (2 * n + 1) (omega arith) ∙ ap (λ (k : ℕ). getD tw k nan) {x = 2 * twiddleStart (p .half) (p .radices) j + (2 * n + 1)} {y = 2 * (twiddleStart (p .half) (p .radices) j + n) + 1} (omega arith))
+
+    pub own-lent : (j : ℕ) → 1 ≤ j → j < p .count → Agree (M j) (radix (inUse p) j) (lentAt (M j) (radix (inUse p) j) W (ownOf p tw j)) (lentTo p W tw j)
+    own-lent j later l i q li first last =
+        let r = radix (inUse p) j in
+        let count : M j * (r - 1) ≡ twiddleCount (p .half) (p .radices) j = rw (use-radix p e j l) (count-later p e j (λ z. omega arith) l) in
+        own-cell j (place (M j) r W i q) (rw (← count) (place-lt (M j) r W i q width li first last))
+
+    -- a stage of a run is the schedule's, with the lent twiddles
+    pub stage-lent : (j : ℕ) → j < p .count → (xs : List Float) → stageIn p W tw j xs ≡ flat (stage (floats (lentTo p W tw)) (p .half) (inUse p) j (paired xs))
+    unfolding stageOf
+    stage-lent j l xs = ap flat (plan-agree (λ k. lentAt (M j) (radix (inUse p) j) W (ownOf p tw j)) (lentTo p W tw) j l (λ later. own-lent j later l) (paired xs))
+
+    -- ---- both buffers, word by word and cell by cell
+
+    abbrev flatTwo : Two Complex → Two Float
+    flatTwo b = (flat (b .0), flat (b .1))
+
+    flat-across : (j : ℕ) → j < p .count → (t : Bool) (b : Two Complex)
+        → across t (stageIn p W tw j) (flatTwo b) ≡ flatTwo (across t (stage (floats (lentTo p W tw)) (p .half) (inUse p) j) b)
+    flat-across j l t b = go t
+      where
+        made : (zs : List Complex) → stageIn p W tw j (flat zs) ≡ flat (stage (floats (lentTo p W tw)) (p .half) (inUse p) j zs)
+        made zs = stage-lent j l (flat zs) ∙ ap (λ (us : List Complex). flat (stage (floats (lentTo p W tw)) (p .half) (inUse p) j us)) (paired-flat zs)
+
+        go : (t : Bool) → across t (stageIn p W tw j) (flatTwo b) ≡ flatTwo (across t (stage (floats (lentTo p W tw)) (p .half) (inUse p) j) b)
+        go true = ap (λ (ys : List Float). (flat (b .0), ys)) (made (b .0))
+        go false = ap (λ (ys : List Float). (ys, flat (b .1))) (made (b .1))
+
+    flat-alternated : (b : Two Complex) (k : ℕ) → k ≤ p .count
+        → alternated (stageIn p W tw) k (flatTwo b) ≡ flatTwo (alternated (stage (floats (lentTo p W tw)) (p .half) (inUse p)) k b)
+    unfolding alternated
+    flat-alternated b zero l = refl
+    flat-alternated b (suc k) l =
+        ap (across (eqb (k % 2) 0) (stageIn p W tw k)) (flat-alternated b k (le-of-lt l)) ∙ flat-across k l (eqb (k % 2) 0) (alternated (stage (floats (lentTo p W tw)) (p .half) (inUse p)) k b)
+
+    flat-source : (t : Bool) (b : Two Complex) → sourceBy t (flatTwo b) ≡ flat (sourceBy t b)
+    flat-source true b = refl
+    flat-source false b = refl
+
+    -- the result of a run is what the schedule's last stage makes, with the lent twiddles
+    pub run-lent : (xs ys : List Float) → length xs ≡ 2 * p .half → length ys ≡ 2 * p .half
+        → heldIn (resultIn (p .count)) (runOf p W tw (xs, ys)) ≡ flat (run (floats (lentTo p W tw)) (p .half) (inUse p) (p .count) (paired xs))
+    unfolding driven resultIn
+    run-lent xs ys lx ly =
+        let b : Two Complex = (paired xs, paired ys) in
+        let same : _≡_ {A = Two Float} (xs, ys) (flatTwo b) = λ i. (sym (flat-paired (p .half) xs lx) i, sym (flat-paired (p .half) ys ly) i) in
+        let u : Bool = eqb (p .count % 2) 0 in
+        held (eqb (p .count) 1) u (alternated (stageIn p W tw) (p .count) (xs, ys)) (λ t. ap (λ (n : ℕ). eqb (n % 2) 0) (eqb-true (p .count) 1 t))
+        ∙ ap (λ (c : Two Float). sourceBy u (alternated (stageIn p W tw) (p .count) c)) same
+        ∙ ap (sourceBy u) (flat-alternated b (p .count) (omega arith))
+        ∙ flat-source u (alternated (stage (floats (lentTo p W tw)) (p .half) (inUse p)) (p .count) b)
+        ∙ ap flat (source-run (floats (lentTo p W tw)) (p .half) (inUse p) b (p .count))

@@ -1,0 +1,96 @@
+-- What a reader opens first: a stage's output does not depend on the width its twiddles are packed for; with filled twiddles a stage and a run
+-- are the schedule whose twiddles are its own turns; and a refused stage writes nothing. That two outcomes of a call are equal is `Stages-one`
+-- of proofs/Unique.antt. Assumes nothing.
+use Prim.Native.Nat.{ℕ, _+_, _*_, _/_, _≤_, _<_}
+use native.Mathlib.Omega.{arith}
+use mathlib.Core.Path.{_≡_, refl, sym, ap, ap₂, _∙_}
+use mathlib.Core.Bool.{true}
+use mathlib.Core.List.{List}
+use lib.Ieee.{Float, nan}
+use lib.ListN.{length}
+use Rattle.refusal.specs.Refusal.{left}
+use Rattle.refusal.specs.declared.Refusal.{Refusal}
+use Rattle.refusal.specs.declared.Verdict.{Verdict}
+use Rattle.refusal.specs.declared.Verdict.the-variants.{Accepted, Refused}
+use Rattle.refusal.proofs.Rows.{settled}
+use Rattle.plan.specs.Counts.{radix, resultIn}
+use Rattle.plan.specs.declared.Record.{Record}
+use Rattle.schedule.specs.Buffers.{heldIn}
+use Rattle.schedule.specs.Plans.{inUse}
+use Rattle.schedule.specs.Stage.{stage, run}
+use Rattle.twiddle.specs.Calls.{Slices, Fills}
+use Rattle.twiddle.specs.declared.inner.ends.Direction.{Direction}
+use Rattle.twiddle.proofs.Theorems.{filled-twiddle}
+use Rattle.twiddle.proofs.Verdicts.{Taken, taken, width-bounds}
+use Rattle.stage.specs.Calls.{Stages, stageVerdict}
+use Rattle.stage.specs.Complexes.{cx, paired, flat}
+use Rattle.stage.specs.Floats.{floats, lentAt, stageOf}
+use Rattle.stage.specs.Parts.{Workable}
+use Rattle.stage.specs.Runs.{ownOf, stageIn, runOf, lentTo, turning, Drivable}
+use Rattle.stage.proofs.Same.{Agree, AgreeAll, plan-agree, run-agree, stage-lent, run-lent}
+use Rattle.stage.proofs.Verdicts.{stage-workable}
+
+-- ---- a call of a stage
+
+module _ (p : Record) (j W : ℕ) (xs out tw : List Float) (r : Verdict) (ys : List Float) (s : Stages p j W xs out tw r ys) where
+  -- what an accepted call tells of what it was lent, and what it leaves
+  pub stage-told : r ≡ Accepted → Workable p j W (length xs) (length tw) (length out)
+  stage-told e = stage-workable p j W xs (length out) tw r (s .answer) e
+
+  pub stage-left : r ≡ Accepted → ys ≡ stageOf p j W tw xs
+  stage-left e = settled _ _ _ _ _ s (sym (s .answer) ∙ e)
+
+  -- a refused call writes nothing
+  pub stage-kept : (why : Refusal) → r ≡ Refused why → ys ≡ out
+  stage-kept why e = s .cells ∙ ap (λ (v : Verdict). left v (stageOf p j W tw xs) out) (sym (s .answer) ∙ e)
+
+-- lent the same words for each iteration and number, at any two widths, a stage makes the same
+pub any-width : (p : Record) (j W W′ : ℕ) (xs out out′ tw tw′ : List Float) (r r′ : Verdict) (ys ys′ : List Float) → Stages p j W xs out tw r ys → Stages p j W′ xs out′ tw′ r′ ys′
+    → r ≡ Accepted → r′ ≡ Accepted
+    → Agree (p .half / radix (inUse p) j) (radix (inUse p) j) (lentAt (p .half / radix (inUse p) j) (radix (inUse p) j) W tw) (lentAt (p .half / radix (inUse p) j) (radix (inUse p) j) W′ tw′)
+    → ys ≡ ys′
+unfolding stageOf
+any-width p j W W′ xs out out′ tw tw′ r r′ ys ys′ s s′ e e′ agree =
+    let t = stage-told p j W xs out tw r ys s e in
+    stage-left p j W xs out tw r ys s e ∙ ap flat (plan-agree p (t .planned) _ _ j (t .known) (λ later. agree) (paired xs)) ∙ sym (stage-left p j W′ xs out′ tw′ r′ ys′ s′ e′)
+
+-- ---- with the words that an accepted filling leaves
+
+module _ (d : Direction) (p : Record) (W : ℕ) (before : Slices) (r : Verdict) (after : Slices) (fills : Fills d p W before r after) (accepted : r ≡ Accepted) where
+  tells : Taken p W (length (before .0)) (length (before .1))
+  tells = taken p W (length (before .0)) (length (before .1)) r (fills .answer) accepted
+
+  width : 0 < W
+  width = width-bounds W (tells .width) .0
+
+  -- the lent twiddles are the words of the schedule's turns
+  pub filled-turns : AgreeAll p (lentTo p W (after .0)) (turning (inUse p))
+  filled-turns j later known i q li first last =
+      let at = filled-twiddle d p W before r after fills accepted nan j i q later known li first last in
+      ap₂ cx (at .first) (at .second)
+
+  -- so a stage is the schedule's, its twiddles the words of the schedule's turns
+  pub filled-stage : (j : ℕ) → j < p .count → (xs : List Float) → stageIn p W (after .0) j xs ≡ flat (stage (floats (turning (inUse p))) (p .half) (inUse p) j (paired xs))
+  filled-stage j l xs =
+      stage-lent p (tells .planned) W width (after .0) j l xs
+      ∙ ap flat (plan-agree p (tells .planned) (lentTo p W (after .0)) (turning (inUse p)) j l (λ later. filled-turns j later l) (paired xs))
+
+  -- what an accepted call of a stage leaves when it is lent its own of them
+  pub filled-call : (j : ℕ) (xs out : List Float) (v : Verdict) (ys : List Float) → Stages p j W xs out (ownOf p (after .0) j) v ys → v ≡ Accepted
+      → ys ≡ flat (stage (floats (turning (inUse p))) (p .half) (inUse p) j (paired xs))
+  filled-call j xs out v ys s e =
+      stage-left p j W xs out (ownOf p (after .0) j) v ys s e ∙ filled-stage j (stage-told p j W xs out (ownOf p (after .0) j) v ys s e .known) xs
+
+  -- and a run's result is the schedule's run
+  pub filled-run : (xs ys : List Float) → length xs ≡ 2 * p .half → length ys ≡ 2 * p .half
+      → heldIn (resultIn (p .count)) (runOf p W (after .0) (xs, ys)) ≡ flat (run (floats (turning (inUse p))) (p .half) (inUse p) (p .count) (paired xs))
+  filled-run xs ys lx ly =
+      run-lent p (tells .planned) W width (after .0) xs ys lx ly
+      ∙ ap flat (run-agree p (tells .planned) (lentTo p W (after .0)) (turning (inUse p)) filled-turns (paired xs) (p .count) (omega arith))
+
+-- two fillings of one plan, at any widths and in either direction, give the same result of a run
+pub filled-alike : (c d : Direction) (p : Record) (W W′ : ℕ) (b b′ : Slices) (r r′ : Verdict) (a a′ : Slices) → Fills c p W b r a → Fills d p W′ b′ r′ a′ → r ≡ Accepted → r′ ≡ Accepted
+    → (xs ys ys′ : List Float) → length xs ≡ 2 * p .half → length ys ≡ 2 * p .half → length ys′ ≡ 2 * p .half
+    → heldIn (resultIn (p .count)) (runOf p W (a .0) (xs, ys)) ≡ heldIn (resultIn (p .count)) (runOf p W′ (a′ .0) (xs, ys′))
+filled-alike c d p W W′ b b′ r r′ a a′ f f′ e e′ xs ys ys′ lx ly ly′ =
+    filled-run c p W b r a f e xs ys lx ly ∙ sym (filled-run d p W′ b′ r′ a′ f′ e′ xs ys′ lx ly′)

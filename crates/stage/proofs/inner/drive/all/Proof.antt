@@ -1,0 +1,46 @@
+-- `stage::inner::drive::all` meets its contract. Assumes nothing.
+use borrow.Author.Needs.{needs}
+use Rattle.stage.proofs.Runs.{run-copied, run-kept}
+use Rattle.stage.proofs.inner.drive.all.Statement.{statement}
+use Rattle.stage.proofs.inner.drive.all.Tie as tie
+
+drive-requires : tie.Need-drive-requires
+drive-requires c κs = search needs
+
+copy-requires : tie.Need-copy-requires
+copy-requires c κs = search needs
+
+same-length : tie.Need-same-length
+same-length c = search needs
+
+same-length-2 : tie.Need-same-length-2
+same-length-2 c = search needs
+
+returns : tie.Need-returns
+returns c =
+    let a = c .before .before .before .before .before .before .before .before .before .before .before .before .before .before .before .before .before .args in
+    run-copied (a .plan) (a .width) (a .twiddles .now) (a .«data» .now, a .scratch .now) (c .before .before .before .before .before .if1 .taken) _ _ (c .before .before .copy .ensures) (c .before .before .before .before .before .before .before .before .before .before .before .drive .ensures .1)
+
+same-length-3 : tie.Need-same-length-3
+same-length-3 c = search needs
+
+same-length-4 : tie.Need-same-length-4
+same-length-4 c = search needs
+
+returns-2 : tie.Need-returns-2
+returns-2 c =
+    let a = c .before .before .before .before .before .before .before .before .before .before .before .before .args in
+    run-kept (a .plan) (a .width) (a .twiddles .now) (a .«data» .now, a .scratch .now) (c .if1 .left) _ _ (c .before .before .before .before .before .before .drive .ensures .0) (c .before .before .before .before .before .before .drive .ensures .1)
+
+pub all-spec : {M : Type 1} → statement M
+all-spec =
+    tie.close
+    (tie.spec
+    drive-requires
+    copy-requires
+    same-length
+    same-length-2
+    returns
+    same-length-3
+    same-length-4
+    returns-2)

@@ -1,0 +1,69 @@
+-- `stage::inner::drive::copy` meets its contract. Assumes nothing.
+use borrow.Author.Needs.{needs}
+use native.Mathlib.Omega.{arith}
+use Prim.Native.Nat.{_-_, _≤_}
+use mathlib.Core.Path.{_≡_, sym, _∙_}
+use lib.ListN.{length, length-set, getD}
+use lib.Ieee.{nan}
+use Rattle.schedule.proofs.Buffers.{Copied, copied-next, copied-all}
+use Rattle.stage.proofs.inner.drive.copy.Statement.{statement}
+use Rattle.stage.proofs.inner.drive.copy.Tie as tie
+
+abbrev Inv-loop : tie.InvT-loop
+Inv-loop src dst₀ i₀ dst i = (length dst ≡ length src) × ((i ≤ length src) × Copied nan src dst i)
+
+abbrev μ-loop : tie.MeasureT-loop
+μ-loop src dst₀ i₀ dst i = length src - i
+
+loop-holds : tie.Need-loop-holds Inv-loop μ-loop
+loop-holds c = (c .pre, (omega arith, λ q l. absurd (omega arith)))
+
+mul-dst : tie.Need-mul-dst Inv-loop μ-loop
+mul-dst c = search needs
+
+shared-slice-read-dst : tie.Need-shared-slice-read-dst Inv-loop μ-loop
+shared-slice-read-dst c = search needs
+
+mul-dst-2 : tie.Need-mul-dst-2 Inv-loop μ-loop
+mul-dst-2 c = search needs
+
+slice-write-dst : tie.Need-slice-write-dst Inv-loop μ-loop
+slice-write-dst c = search needs
+
+add-i : tie.Need-add-i Inv-loop μ-loop
+add-i c = search needs
+
+loop-less : tie.Need-loop-less Inv-loop μ-loop
+loop-less c = search needs
+
+loop-again : tie.Need-loop-again Inv-loop μ-loop
+loop-again c =
+    let a = c .before .before .before .args in
+    let l = c .before .before .loop in
+    (length-set (l .dst) (l .i) (getD (a .src .now) (l .i) nan) ∙ l .inv .0, (omega (arith, c .before .loop-test .taken), copied-next nan (a .src .now) (l .dst) (l .i) (omega (arith, c .before .loop-test .taken, l .inv .0)) (l .inv .1 .1)))
+
+same-length : tie.Need-same-length Inv-loop μ-loop
+same-length c = c .before .loop .inv .0 ∙ sym (c .before .before .pre)
+
+returns : tie.Need-returns Inv-loop μ-loop
+returns c =
+    let a = c .before .before .args in
+    let l = c .before .loop in
+    copied-all nan (a .src .now) (l .dst) (l .i) (l .inv .0) (c .loop-test .left) (l .inv .1 .1)
+
+pub copy-spec : {M : Type 1} → statement M
+copy-spec =
+    tie.close
+    (tie.spec
+    Inv-loop
+    μ-loop
+    loop-holds
+    mul-dst
+    shared-slice-read-dst
+    mul-dst-2
+    slice-write-dst
+    add-i
+    loop-less
+    loop-again
+    same-length
+    returns)

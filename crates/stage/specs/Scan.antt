@@ -1,0 +1,36 @@
+-- Which numbers are taken, and the first that is not. Assumes nothing.
+use Prim.Native.Nat.{ℕ, suc, _+_, _*_, _^_}
+use mathlib.Core.Path.{_≡_}
+use mathlib.Core.Bool.{Bool, false, cond, _&&_}
+use mathlib.Core.List.{List, [], _∷_}
+use lib.Dec.{leb}
+use lib.ListN.{drop}
+use lib.Ieee.{Float, nan, inf, fin, le, neg, up, down}
+use lib.IntN.{pos}
+
+-- finite, and at most 2 ^ k in magnitude
+unfoldable pub fits : (k : ℕ) → Float → Bool
+fits k nan = false
+fits k (inf s) = false
+fits k (fin s m e) = leb (m * up e) (2 ^ k * down e)
+
+-- the index of the first number at which the test fails, or the length
+abbrev pub firstNot : (Float → Bool) → List Float → ℕ
+firstNot f [] = 0
+firstNot f (x ∷ xs) = cond (f x) (suc (firstNot f xs)) 0
+
+-- the index of the first number that is not finite or above 2 ^ k in magnitude, or the length
+unfoldable pub firstUnfit : (k : ℕ) → List Float → ℕ
+firstUnfit k xs = firstNot (fits k) xs
+
+-- 2 ^ k
+abbrev pub bound : ℕ → Float
+bound k = fin false 1 (pos k)
+
+-- at most b in magnitude as a program tests it, false at a NaN
+abbrev pub within : (b x : Float) → Bool
+within b x = le x b && le (neg b) x
+
+-- the first i numbers are within b, so that the scan may go on from there
+abbrev pub Passed : (b : Float) → List Float → (i : ℕ) → Type 0
+Passed b xs i = firstNot (within b) xs ≡ i + firstNot (within b) (drop i xs)
