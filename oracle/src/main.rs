@@ -59,9 +59,10 @@ fn main() -> std::io::Result<()> {
         [kind @ ("layouts" | "places" | "fillings" | "words")] => {
             print(kind, twiddles(twiddles::records(kind)))
         }
-        ["sample", kind @ ("layouts" | "places" | "fillings" | "words")] => {
-            print(&format!("recorded {kind}"), twiddles(twiddles::sample(kind)))
-        }
+        ["sample", kind @ ("layouts" | "places" | "fillings" | "words")] => print(
+            &format!("recorded {kind}"),
+            twiddles(twiddles::sample(kind)),
+        ),
         _ => {
             eprintln!("usage: oracle [sample] planning|scaling|layouts|places|fillings|words");
             std::process::exit(2)

@@ -42,11 +42,13 @@ loop-less c = search needs
 loop-again : tie.Need-loop-again Inv-loop μ-loop
 loop-again c =
     let a = c .before .before .before .before .before .before .args in
-    let l = c .before .before .before .before .loop in
-    (search needs, λ t p. ⊎-elim
-      (λ w. absurd (false≢true (sym (w .1) ∙ t)))
-      (λ w. pass-on (a .b) (a .xs .now) (a .i) (l .k) (search needs) (sym (c .before .within .ensures) ∙ not-false _ (w .0 .left)) (l .inv .1 (sym (w .1) ∙ t) p))
-      (c .if1 .came))
+    let l = c .before .before .before .before .loop in (
+      search needs,
+      λ t p. ⊎-elim
+          (λ w. absurd (false≢true (sym (w .1) ∙ t)))
+          (λ w. pass-on (a .b) (a .xs .now) (a .i) (l .k) (search needs) (sym (c .before .within .ensures) ∙ not-false _ (w .0 .left)) (l .inv .1 (sym (w .1) ∙ t) p))
+          (c .if1 .came),
+    )
 
 returns : tie.Need-returns Inv-loop μ-loop
 returns c =
