@@ -1,8 +1,9 @@
-//! The oracle: the original Rust, asked case by case, at scalar width but for the twiddles. It stands in place of the
-//! original's crate root.
+//! The oracle: the original Rust, asked case by case, at scalar width but for the twiddles and single stages. It stands in
+//! place of the original's crate root.
 //!
 //! `oracle KIND` prints a record for each case, and `oracle sample KIND` the recorded ones among them: planning and scaling,
-//! and of twiddles layouts, places, fillings and words. text.rs says what stands in a record. The counts go to standard error.
+//! of twiddles layouts, places, fillings and words, and of stages stages, cells and runs. text.rs says what stands in a
+//! record. The counts go to standard error.
 extern crate alloc;
 
 mod asked;
@@ -15,6 +16,7 @@ mod planning;
 mod rates;
 mod rust;
 mod scaling;
+mod stages;
 mod table;
 mod text;
 mod twiddles;
@@ -50,21 +52,26 @@ fn main() -> std::io::Result<()> {
             .into_iter()
             .map(|case| (case.line(), case.is_refused()))
     };
-    let twiddles = |records: Vec<String>| records.into_iter().map(|record| (record, false));
+    let none_refused = |records: Vec<String>| records.into_iter().map(|record| (record, false));
     match words.as_slice() {
         ["planning"] => print("planning", planning(planning::cases())),
         ["scaling"] => print("scaling", scaling(scaling::cases())),
         ["sample", "planning"] => print("recorded planning", planning(planning::sample())),
         ["sample", "scaling"] => print("recorded scaling", scaling(scaling::sample())),
         [kind @ ("layouts" | "places" | "fillings" | "words")] => {
-            print(kind, twiddles(twiddles::records(kind)))
+            print(kind, none_refused(twiddles::records(kind)))
         }
-        ["sample", kind @ ("layouts" | "places" | "fillings" | "words")] => print(
-            &format!("recorded {kind}"),
-            twiddles(twiddles::sample(kind)),
-        ),
+        ["sample", kind @ ("layouts" | "places" | "fillings" | "words")] => {
+            print(&format!("recorded {kind}"), none_refused(twiddles::sample(kind)))
+        }
+        [kind @ ("stages" | "cells" | "runs")] => {
+            print(kind, none_refused(stages::records(kind)))
+        }
+        ["sample", kind @ ("stages" | "cells" | "runs")] => {
+            print(&format!("recorded {kind}"), none_refused(stages::sample(kind)))
+        }
         _ => {
-            eprintln!("usage: oracle [sample] planning|scaling|layouts|places|fillings|words");
+            eprintln!("usage: oracle [sample] planning|scaling|layouts|places|fillings|words|stages|cells|runs");
             std::process::exit(2)
         }
     }

@@ -24,6 +24,19 @@
 //! Words start with a line of 32 bytes: lent list 16, width 1, direction 1, words of the stages 5, words of the ends 4. A line
 //! of 9 bytes follows for each word of the stages and then of the ends, all as the original has them.
 //!
+//! Stages start with a line of 26 bytes: lent list 16, number of the stage 1, width 1, words of its twiddles 4. A line of 9
+//! bytes follows for each word of the original's twiddles of that stage, packed for the width, and eight lines of 24 bytes, each
+//! with a case: twiddles 1 (R the original's, D drawn), kind of the cells 1, seed 8 in hexadecimal, checksum 10. The cells are
+//! drawn from the seed, and after them the twiddles where they are drawn; stages.rs says how. The checksum is taken over the words
+//! that the stage writes.
+//!
+//! Cells start with the same line of 26 bytes. A line of 9 bytes follows for each word that the stage reads, for each word of
+//! the twiddles lent, and for each word that the stage writes.
+//!
+//! Runs start with a line of 52 bytes: lent list 16, kind of the cells 1, seed 8, buffer of the result 1, checksum of the data
+//! 10, checksum of the scratchpad 10, both as the original's driver leaves them. The cells of both are drawn from the seed,
+//! the data first. A line of 9 bytes follows for each word of the twiddles of all stages, packed for width 1.
+//!
 //! A checksum starts from 0; each number x takes a sum s to 31 s + x modulo 4,294,967,291.
 //!
 //! Numbers are decimal with zeros in front. A list has a character for each byte and `.` where there is none: a digit

@@ -9,13 +9,13 @@ use crate::rust::radices;
 use crate::text::{list, number, word, LENT};
 
 /// The widths that twiddles are packed for.
-const WIDTHS: [usize; 3] = [1, 2, 4];
+pub const WIDTHS: [usize; 3] = [1, 2, 4];
 
 /// The circle of the house table.
 const CIRCLE: usize = 6720;
 
 /// The checksum's modulus, a prime below 2^32.
-const MODULUS: u64 = 4_294_967_291;
+pub const MODULUS: u64 = 4_294_967_291;
 
 /// The quarter turns 0, 1, 2 and 3: the exact words of each.
 const EXACT: [[u32; 2]; 4] = [
@@ -34,7 +34,7 @@ const ODD: [[u32; 2]; 4] = [
 ];
 
 /// The checksum of a row of numbers.
-fn checksum(numbers: impl Iterator<Item = u64>) -> u64 {
+pub fn checksum(numbers: impl Iterator<Item = u64>) -> u64 {
     numbers.fold(0, |sum, next| (sum * 31 + next) % MODULUS)
 }
 
@@ -51,24 +51,24 @@ fn factored(n: usize) -> Option<Vec<u8>> {
 }
 
 /// The lists of the lengths that can be planned, a list for each.
-fn lists() -> Vec<Vec<u8>> {
+pub fn lists() -> Vec<Vec<u8>> {
     (2..=LARGEST).step_by(2).filter_map(factored).collect()
 }
 
 /// The two words of a number.
-fn words(twiddle: &Complex32) -> [u32; 2] {
+pub fn words(twiddle: &Complex32) -> [u32; 2] {
     [twiddle.re.to_bits(), twiddle.im.to_bits()]
 }
 
-/// A stage from the second on, as far as its twiddles go.
-struct Stage {
-    stride: usize,
-    radix: usize,
-    iterations: usize,
+/// A stage.
+pub struct Stage {
+    pub stride: usize,
+    pub radix: usize,
+    pub iterations: usize,
 }
 
 /// The stages of a plan, the first among them.
-fn stages(half: usize, factors: &[Radix]) -> Vec<Stage> {
+pub fn stages(half: usize, factors: &[Radix]) -> Vec<Stage> {
     let mut stride = 1;
     factors
         .iter()
