@@ -1,4 +1,4 @@
-/* reference.c: the stages of a transform in C, each radix with its own kernel and constants, as 01 states them: the yardstick that
+/* reference.c: the stages of a transform in C, each radix with its own kernel and constants, as the customer's paper states them: the yardstick that
  * the library's stages are counted against. */
 typedef __SIZE_TYPE__ size_t;
 
