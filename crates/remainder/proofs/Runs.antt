@@ -1,7 +1,6 @@
 -- Laws of a run: its stages find what they ask for, and leave what the definition states. Assumes nothing.
-use Prim.Native.Nat.{ℕ, zero, suc, _+_, _%_, _<_}
+use Prim.Native.Nat.{ℕ, _%_, _<_}
 use native.Mathlib.Nat.{le-of-lt}
-use native.Mathlib.Numerals.{add-one}
 use mathlib.Core.Path.{_≡_, sym, ap, subst, _∙_}
 use mathlib.Core.Bool.{Bool, true, false}
 use mathlib.Core.List.{List}
@@ -13,11 +12,11 @@ use Rattle.plan.specs.Record.{isPlanned}
 use Rattle.plan.specs.declared.Record.{Record}
 use Rattle.refusal.specs.declared.Refusal.the-variants.{NotPlanned}
 use Rattle.refusal.specs.declared.Verdict.the-variants.{Refused}
-use Rattle.schedule.specs.Buffers.{Two, across, alternated, driven, heldIn}
+use Rattle.schedule.specs.Buffers.{Two, alternated, driven, heldIn}
 use Rattle.schedule.specs.Plans.{inUse}
 use Rattle.schedule.specs.Stage.{plain, stage}
 use Rattle.schedule.proofs.Cells.{length-stage}
-use Rattle.schedule.proofs.Buffers.{sourceBy, source-run, held}
+use Rattle.schedule.proofs.Buffers.{sourceBy, source-run, held, both-long}
 use Rattle.remainder.specs.Calls.{Lent, Drivable, Workable, stageOf, runOf, runVerdict, lentVerdict}
 use Rattle.remainder.specs.Residues.{residues}
 use Rattle.remainder.specs.Rows.{Under}
@@ -51,55 +50,18 @@ module _ (p : Record) (m w : ℕ) (xs ys : List ℕ) (room : ℕ) (h : Drivable 
     odd-workable e = workable false (ne-eqb (k % 2) 0 e)
 
   -- both stay as long as they are
-  both-lengths : length ys ≡ p .half → (k : ℕ) → (length (both k .0) ≡ p .half) × (length (both k .1) ≡ p .half)
-  unfolding alternated stage
-  both-lengths e zero = (h .lent .long, e)
-  both-lengths e (suc k) = go (eqb (k % 2) 0) (both-lengths e k)
+  pub both-lengths : length ys ≡ p .half → (k : ℕ) → (length (both k .0) ≡ p .half) × (length (both k .1) ≡ p .half)
+  unfolding stage
+  both-lengths e = both-long (λ j. stageOf p j m w) (xs, ys) (p .half) made (h .lent .long) e
     where
-      made : (zs : List ℕ) → length (stageOf p k m w zs) ≡ p .half
-      made zs =
+      made : (k : ℕ) (zs : List ℕ) → length (stageOf p k m w zs) ≡ p .half
+      made k zs =
           let a = residues m w (p .half) (inUse p) in
           length-stage (plain a) a k (p .half) (stride (inUse p) k) (radix (inUse p) k) zs
 
-      go : (t : Bool) → (length (both k .0) ≡ p .half) × (length (both k .1) ≡ p .half)
-          → (length (across t (stageOf p k m w) (both k) .0) ≡ p .half) × (length (across t (stageOf p k m w) (both k) .1) ≡ p .half)
-      go true f = (f .0, made (both k .0))
-      go false f = (made (both k .1), f .1)
-
-  pub data-length : length ys ≡ p .half → (k : ℕ) (d : List ℕ) → d ≡ both k .0 → length d ≡ p .half
-  data-length e k d f = ap length f ∙ both-lengths e k .0
-
-  pub scratch-length : length ys ≡ p .half → (k : ℕ) (s : List ℕ) → s ≡ both k .1 → length s ≡ p .half
-  scratch-length e k s f = ap length f ∙ both-lengths e k .1
-
-  across-next : (k : ℕ) (t : Bool) → eqb (k % 2) 0 ≡ t → across t (stageOf p k m w) (both k) ≡ both (k + 1)
-  unfolding alternated
-  across-next k t e = ap (λ (u : Bool). across u (stageOf p k m w) (both k)) (sym e) ∙ ap both (sym (add-one k))
-
-  -- one stage more
-  pub even-next : (k : ℕ) (d s d′ s′ : List ℕ) → k % 2 ≡ 0 → d ≡ both k .0 → d′ ≡ d → s′ ≡ stageOf p k m w d → (d′ ≡ both (k + 1) .0) × (s′ ≡ both (k + 1) .1)
-  even-next k d s d′ s′ e f g q =
-      let next = across-next k true (eq-eqb (k % 2) 0 e) in
-      (g ∙ f ∙ ap (λ (b : Two ℕ). b .0) next, q ∙ ap (stageOf p k m w) f ∙ ap (λ (b : Two ℕ). b .1) next)
-
-  pub odd-next : (k : ℕ) (d s d′ s′ : List ℕ) → (k % 2 ≡ 0 → ⊥) → s ≡ both k .1 → d′ ≡ stageOf p k m w s → s′ ≡ s → (d′ ≡ both (k + 1) .0) × (s′ ≡ both (k + 1) .1)
-  odd-next k d s d′ s′ e f g q =
-      let next = across-next k false (ne-eqb (k % 2) 0 e) in
-      (g ∙ ap (stageOf p k m w) f ∙ ap (λ (b : Two ℕ). b .0) next, q ∙ f ∙ ap (λ (b : Two ℕ). b .1) next)
-
--- ---- the end of a run
+-- ---- the verdict of a run
 
 module _ (p : Record) (m w : ℕ) (b : Two ℕ) where
-  -- a single stage is copied back
-  pub run-copied : p .count ≡ 1 → (d s : List ℕ) → d ≡ s → s ≡ alternated (λ j. stageOf p j m w) (p .count) b .1 → (d ≡ runOf p m w b .0) × (s ≡ runOf p m w b .1)
-  unfolding driven
-  run-copied e d s f g = simp (eq-eqb (p .count) 1 e) (f ∙ g, g)
-
-  pub run-kept : (p .count ≡ 1 → ⊥) → (d s : List ℕ) → d ≡ alternated (λ j. stageOf p j m w) (p .count) b .0 → s ≡ alternated (λ j. stageOf p j m w) (p .count) b .1
-      → (d ≡ runOf p m w b .0) × (s ≡ runOf p m w b .1)
-  unfolding driven
-  run-kept e d s f g = simp (ne-eqb (p .count) 1 e) (f, g)
-
   pub run-unplanned : isPlanned p ≡ false → Refused (NotPlanned 0) ≡ runVerdict p m w (b .0) (length (b .1))
   unfolding runVerdict
   run-unplanned e = simp (e)

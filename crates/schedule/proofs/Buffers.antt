@@ -1,9 +1,10 @@
 -- Laws of two buffers written alternately: where the last stage's cells are. Assumes nothing.
-use mathlib.Core.Path.{_≡_, refl, ap, _∙_}
+use mathlib.Core.Path.{_≡_, refl, sym, ap, _∙_}
 use mathlib.Core.Bool.{Bool, true, false, not, _||_}
 use Rattle.plan.specs.Counts.{bufferBy}
 use mathlib.Core.List.{List}
 use Prim.Native.Nat.{ℕ, zero, suc, _+_, _%_, _<_, _≤_}
+use native.Mathlib.Numerals.{add-one}
 use native.Mathlib.Omega.{arith}
 use native.Mathlib.Decide.{ℕ-discrete}
 use lib.Dec.{eqb}
@@ -11,7 +12,7 @@ use lib.ListN.{length, getD, set}
 use lib.Seq.{getD-set-same, getD-set-other, ext-getD}
 use borrow.Author.Tests.{eq-eqb, ne-eqb, eqb-true, eqb-false}
 use Rattle.schedule.specs.Stage.{Arith, stage, run}
-use Rattle.schedule.specs.Buffers.{Two, across, alternated, copiedBy, heldIn}
+use Rattle.schedule.specs.Buffers.{Two, across, alternated, copiedBy, driven, heldIn}
 
 -- the buffer that stage k reads
 abbrev pub sourceBy : {A : Type 0} → Bool → Two A → List A
@@ -48,6 +49,45 @@ held true true b e = ap (λ (v : Bool). sourceBy (not v) b) (e refl)
 held true false b e = refl
 held false true b e = refl
 held false false b e = refl
+
+-- ---- stages f, one more and the last
+
+module _ {A : Type 0} (f : ℕ → List A → List A) (b : Two A) where
+  -- both buffers stay as long as they are
+  pub both-long : (n : ℕ) → ((k : ℕ) (xs : List A) → length (f k xs) ≡ n) → length (b .0) ≡ n → length (b .1) ≡ n
+      → (k : ℕ) → (length (alternated f k b .0) ≡ n) × (length (alternated f k b .1) ≡ n)
+  unfolding alternated
+  both-long n made l m zero = (l, m)
+  both-long n made l m (suc k) = go (eqb (k % 2) 0) (both-long n made l m k)
+    where
+      go : (t : Bool) → (length (alternated f k b .0) ≡ n) × (length (alternated f k b .1) ≡ n)
+          → (length (across t (f k) (alternated f k b) .0) ≡ n) × (length (across t (f k) (alternated f k b) .1) ≡ n)
+      go true g = (g .0, made k (alternated f k b .0))
+      go false g = (made k (alternated f k b .1), g .1)
+
+  across-next : (k : ℕ) (t : Bool) → eqb (k % 2) 0 ≡ t → across t (f k) (alternated f k b) ≡ alternated f (k + 1) b
+  unfolding alternated
+  across-next k t e = ap (λ (u : Bool). across u (f k) (alternated f k b)) (sym e) ∙ ap (λ (n : ℕ). alternated f n b) (sym (add-one k))
+
+  -- what stage k leaves in the buffers d′ and s′, which held d and s
+  pub even-next : (k : ℕ) (d s d′ s′ : List A) → k % 2 ≡ 0 → d ≡ alternated f k b .0 → d′ ≡ d → s′ ≡ f k d → (d′ ≡ alternated f (k + 1) b .0) × (s′ ≡ alternated f (k + 1) b .1)
+  even-next k d s d′ s′ e g u v =
+      let next = across-next k true (eq-eqb (k % 2) 0 e) in
+      (u ∙ g ∙ ap (λ (c : Two A). c .0) next, v ∙ ap (f k) g ∙ ap (λ (c : Two A). c .1) next)
+
+  pub odd-next : (k : ℕ) (d s d′ s′ : List A) → (k % 2 ≡ 0 → ⊥) → s ≡ alternated f k b .1 → d′ ≡ f k s → s′ ≡ s → (d′ ≡ alternated f (k + 1) b .0) × (s′ ≡ alternated f (k + 1) b .1)
+  odd-next k d s d′ s′ e g u v =
+      let next = across-next k false (ne-eqb (k % 2) 0 e) in
+      (u ∙ ap (f k) g ∙ ap (λ (c : Two A). c .0) next, v ∙ g ∙ ap (λ (c : Two A). c .1) next)
+
+  -- a single stage is copied back, more are not
+  pub driven-copied : (count : ℕ) → count ≡ 1 → (d s : List A) → d ≡ s → s ≡ alternated f count b .1 → (d ≡ driven f count b .0) × (s ≡ driven f count b .1)
+  unfolding driven
+  driven-copied count e d s g u = simp (eq-eqb count 1 e) (g ∙ u, u)
+
+  pub driven-kept : (count : ℕ) → (count ≡ 1 → ⊥) → (d s : List A) → d ≡ alternated f count b .0 → s ≡ alternated f count b .1 → (d ≡ driven f count b .0) × (s ≡ driven f count b .1)
+  unfolding driven
+  driven-kept count e d s g u = simp (ne-eqb count 1 e) (g, u)
 
 -- ---- copying, cell by cell
 

@@ -1,23 +1,19 @@
 -- Laws of a run: its stages find what they ask for, and leave what the definition states. Assumes nothing.
-use Prim.Native.Nat.{ℕ, zero, suc, _+_, _-_, _*_, _%_, _≤_, _<_}
-use native.Mathlib.Nat.{le-of-lt}
-use native.Mathlib.Numerals.{add-one}
+use Prim.Native.Nat.{ℕ, _+_, _-_, _*_, _≤_, _<_}
 use native.Mathlib.Omega.{arith}
-use mathlib.Core.Path.{_≡_, refl, sym, ap, _∙_}
-use mathlib.Core.Bool.{Bool, true, false}
+use mathlib.Core.Path.{_≡_, ap, _∙_}
 use mathlib.Core.List.{List}
-use lib.Dec.{eqb}
 use lib.Ieee.{Float}
 use lib.ListN.{length, take, drop, length-drop}
 use lib.Seq.{length-take-le}
-use borrow.Author.Tests.{eq-eqb, ne-eqb}
 use Rattle.plan.specs.Counts.{radix, stride, twiddleCount, twiddleStart, stageTwiddles, resultIn}
 use Rattle.plan.specs.declared.Buffer.{Buffer}
 use Rattle.plan.specs.declared.Record.{Record}
 use Rattle.plan.proofs.Counts.{start-next}
-use Rattle.schedule.specs.Buffers.{Two, across, alternated, driven, heldIn}
+use Rattle.schedule.specs.Buffers.{Two, alternated, heldIn}
 use Rattle.schedule.specs.Plans.{inUse}
 use Rattle.schedule.specs.Stage.{plain, stage}
+use Rattle.schedule.proofs.Buffers.{both-long}
 use Rattle.schedule.proofs.Cells.{length-stage}
 use Rattle.twiddle.proofs.Counts.{start-up}
 use Rattle.stage.specs.Floats.{floats, stageOf}
@@ -70,55 +66,17 @@ module _ (p : Record) (W : ℕ) (tw xs ys : List Float) (nt : ℕ) (h : Drivable
   both k = alternated (stageIn p W tw) k (xs, ys)
 
   -- both stay as long as they are
-  both-lengths : (k : ℕ) → (length (both k .0) ≡ 2 * p .half) × (length (both k .1) ≡ 2 * p .half)
-  unfolding alternated
-  both-lengths zero = (h .long, h .wide)
-  both-lengths (suc k) = go (eqb (k % 2) 0) (both-lengths k)
-    where
-      go : (t : Bool) → (length (both k .0) ≡ 2 * p .half) × (length (both k .1) ≡ 2 * p .half)
-          → (length (across t (stageIn p W tw k) (both k) .0) ≡ 2 * p .half) × (length (across t (stageIn p W tw k) (both k) .1) ≡ 2 * p .half)
-      go true f = (f .0, length-made p k W (ownOf p tw k) (both k .0))
-      go false f = (length-made p k W (ownOf p tw k) (both k .1), f .1)
-
-  pub data-length : (k : ℕ) (d : List Float) → d ≡ both k .0 → length d ≡ 2 * p .half
-  data-length k d f = ap length f ∙ both-lengths k .0
-
-  pub scratch-length : (k : ℕ) (s : List Float) → s ≡ both k .1 → length s ≡ 2 * p .half
-  scratch-length k s f = ap length f ∙ both-lengths k .1
+  pub both-lengths : (k : ℕ) → (length (both k .0) ≡ 2 * p .half) × (length (both k .1) ≡ 2 * p .half)
+  both-lengths = both-long (stageIn p W tw) (xs, ys) (2 * p .half) (λ k zs. length-made p k W (ownOf p tw k) zs) (h .long) (h .wide)
 
   pub steppable : (k : ℕ) → k < p .count → (ns nd start : ℕ) → ns ≡ 2 * p .half → nd ≡ 2 * p .half → start ≡ twiddleStart (p .half) (p .radices) k
       → Steppable p k W ns nd nt start
   steppable k l ns nd start es ed et =
       record { planned = h .planned; known = l; width = h .width; narrow = h .narrow; source = es; target = ed; lent = h .lent; starts = et }
 
-  across-next : (k : ℕ) (t : Bool) → eqb (k % 2) 0 ≡ t → across t (stageIn p W tw k) (both k) ≡ both (k + 1)
-  unfolding alternated
-  across-next k t e = ap (λ (u : Bool). across u (stageIn p W tw k) (both k)) (sym e) ∙ ap both (sym (add-one k))
-
-  -- one stage more
-  pub even-next : (k : ℕ) (d s d′ s′ : List Float) → k % 2 ≡ 0 → d ≡ both k .0 → d′ ≡ d → s′ ≡ stageIn p W tw k d → (d′ ≡ both (k + 1) .0) × (s′ ≡ both (k + 1) .1)
-  even-next k d s d′ s′ e f g q =
-      let next = across-next k true (eq-eqb (k % 2) 0 e) in
-      (g ∙ f ∙ ap (λ (b : Two Float). b .0) next, q ∙ ap (stageIn p W tw k) f ∙ ap (λ (b : Two Float). b .1) next)
-
-  pub odd-next : (k : ℕ) (d s d′ s′ : List Float) → (k % 2 ≡ 0 → ⊥) → s ≡ both k .1 → d′ ≡ stageIn p W tw k s → s′ ≡ s → (d′ ≡ both (k + 1) .0) × (s′ ≡ both (k + 1) .1)
-  odd-next k d s d′ s′ e f g q =
-      let next = across-next k false (ne-eqb (k % 2) 0 e) in
-      (g ∙ ap (stageIn p W tw k) f ∙ ap (λ (b : Two Float). b .0) next, q ∙ f ∙ ap (λ (b : Two Float). b .1) next)
-
 -- ---- the end of a run
 
 module _ (p : Record) (W : ℕ) (tw : List Float) (b : Two Float) where
-  -- a single stage is copied back
-  pub run-copied : p .count ≡ 1 → (d s : List Float) → d ≡ s → s ≡ alternated (stageIn p W tw) (p .count) b .1 → (d ≡ runOf p W tw b .0) × (s ≡ runOf p W tw b .1)
-  unfolding driven
-  run-copied e d s f g = simp (eq-eqb (p .count) 1 e) (f ∙ g, g)
-
-  pub run-kept : (p .count ≡ 1 → ⊥) → (d s : List Float) → d ≡ alternated (stageIn p W tw) (p .count) b .0 → s ≡ alternated (stageIn p W tw) (p .count) b .1
-      → (d ≡ runOf p W tw b .0) × (s ≡ runOf p W tw b .1)
-  unfolding driven
-  run-kept e d s f g = simp (ne-eqb (p .count) 1 e) (f, g)
-
   -- the buffer that is handed back
   pub handed : (which : Buffer) (d s out : List Float) → which ≡ resultIn (p .count) → d ≡ runOf p W tw b .0 → s ≡ runOf p W tw b .1 → out ≡ heldIn which (d, s)
       → out ≡ heldIn (resultIn (p .count)) (runOf p W tw b)

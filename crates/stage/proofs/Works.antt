@@ -60,14 +60,12 @@ module _ (p : Record) (j W ns nt nd : ℕ) (k : Workable p j W ns nt nd) where
   pub work-room : 2 * (p .half / r * r) ≤ nd
   work-room = omega (arith, div-mul-le-self (p .half) r, k .target)
 
-  pub work-lending : (j ≡ 0 → ⊥) → Lending (p .half / r) r W nt 224
+  pub work-lending : (j ≡ 0 → ⊥) → Lending (p .half / r) r nt 224
   work-lending later =
       record {
         some = bounds .0;
         few = bounds .1;
         small = omega (arith, div-le-self (p .half) r, plan-half p (k .planned));
-        width = k .width;
-        narrow = k .narrow;
         lent = omega (arith, k .lent, count-later p (k .planned) j later (k .known));
         local = refl;
       }

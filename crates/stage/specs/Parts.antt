@@ -50,13 +50,11 @@ pub record Sized (M r ns : ℕ) : Type 0 where
 
 -- ---- twiddles
 
--- M iterations of radix r are lent twiddles at width W in nt words, sixteen iterations of which fit nl words
-pub record Lending (M r W nt nl : ℕ) : Type 0 where
+-- M iterations of radix r are lent twiddles in nt words, sixteen iterations of which fit nl words
+pub record Lending (M r nt nl : ℕ) : Type 0 where
   pub some : 2 ≤ r
   pub few : r ≤ 8
   pub small : M ≤ 4096
-  pub width : 0 < W
-  pub narrow : W ≤ 4
   pub lent : 2 * (M * (r - 1)) ≤ nt
   pub local : nl ≡ 224
 

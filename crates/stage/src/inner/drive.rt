@@ -60,16 +60,24 @@ fn copy(src: &[f32], dst: &mut [f32])
     }
 }
 
-// A run of an accepted plan: its stages in turn, and a single one copied back.
-pub fn all(plan: Record, width: usize, data: &mut [f32], scratch: &mut [f32], twiddles: &[f32])
+// A run of an accepted plan: its stages in turn, and a single one copied back. Answers which buffer holds the result.
+pub fn all(
+    plan: Record,
+    width: usize,
+    data: &mut [f32],
+    scratch: &mut [f32],
+    twiddles: &[f32],
+) -> Buffer
     requires { ⌜ Drivable plan width (length (now «data»)) (length (now scratch)) (length (now twiddles)) ⌝ }
     ensures { λ _. ⌜ now («data» .exit) ≡ runOf plan width (now (twiddles .entry)) (now («data» .entry), now (scratch .entry)) .0 ⌝ }
     ensures { λ _. ⌜ now (scratch .exit) ≡ runOf plan width (now (twiddles .entry)) (now («data» .entry), now (scratch .entry)) .1 ⌝ }
+    ensures { λ r. ⌜ r ≡ resultIn (plan .count) ⌝ }
 {
     drive(plan, width, data, scratch, twiddles);
     if plan.count == 1 {
         copy(scratch, data);
     }
+    result_in(plan.count)
 }
 
 // The buffer so named.
@@ -95,6 +103,6 @@ pub fn run<'a>(
     ensures { λ r. ⌜ now r ≡ heldIn (resultIn (plan .count)) (runOf plan width (now (twiddles .entry)) (now («data» .entry), now (scratch .entry))) ⌝ }
     ensures { λ r. ⌜ r .ptr ≡ heldIn (resultIn (plan .count)) («data» .entry .ptr, scratch .entry .ptr) ⌝ }
 {
-    all(plan, width, data, scratch, twiddles);
-    part(data, scratch, result_in(plan.count))
+    let which = all(plan, width, data, scratch, twiddles);
+    part(data, scratch, which)
 }

@@ -23,7 +23,7 @@ fn gather(tw: &[f32], t: &mut [f32], at: usize, from: usize, n: usize, step: usi
 
 // The twiddles of iteration i, to those of iteration j of t.
 fn fetch_one(tw: &[f32], t: &mut [f32], j: usize, i: usize, m: usize, r: usize, w: usize)
-    requires { ⌜ Lending m r w (length (now tw)) (length (now t)) × (i < m) × (j < 16) ⌝ }
+    requires { ⌜ Lending m r (length (now tw)) (length (now t)) × (0 < w) × (w ≤ 4) × (i < m) × (j < 16) ⌝ }
     ensures { λ _. ⌜ Wrote (λ u. lentAt m r w (now (tw .entry)) i (u + 1)) (j * (r - 1)) (r - 1) (now (t .entry)) (now (t .exit)) ⌝ }
 {
     let d = r - 1;
@@ -36,7 +36,7 @@ fn fetch_one(tw: &[f32], t: &mut [f32], j: usize, i: usize, m: usize, r: usize, 
 
 // The twiddles of the len iterations from i on, which at width 1 stand as they are wanted.
 pub fn fetch(tw: &[f32], t: &mut [f32], i: usize, m: usize, len: usize, r: usize, w: usize)
-    requires { ⌜ Lending m r w (length (now tw)) (length (now t)) × (i + len ≤ m) × (len ≤ 16) ⌝ }
+    requires { ⌜ Lending m r (length (now tw)) (length (now t)) × (0 < w) × (w ≤ 4) × (i + len ≤ m) × (len ≤ 16) ⌝ }
     ensures { λ _. ⌜ Fetched i len r (lentAt m r w (now (tw .entry))) (now (t .exit)) ⌝ }
 {
     if w == 1 {

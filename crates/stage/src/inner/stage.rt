@@ -8,7 +8,7 @@ use plan::Record;
 use plan::inner::stages::stride;
 ghost use mathlib.Core.Path.{_≡_};
 ghost use mathlib.Core.Bool.{true, false};
-ghost use Prim.Native.Nat.{ℕ, _*_, _≤_};
+ghost use Prim.Native.Nat.{ℕ, _*_, _<_, _≤_};
 ghost use lib.ListN.{length};
 ghost use Rattle.stage.specs.declared.inner.complex.Complex.{Complex};
 ghost use Rattle.stage.specs.Floats.{lentAt, stageOf};
@@ -29,7 +29,7 @@ fn first_stage(src: &[f32], tw: &[f32], dst: &mut [f32], m: usize, r: usize)
 
 // A later stage of radix r at stride s, of m iterations, its twiddles packed for width w.
 fn later_stage(src: &[f32], tw: &[f32], dst: &mut [f32], m: usize, s: usize, r: usize, w: usize)
-    requires { ⌜ Sized m r (length (now src)) × Lending m r w (length (now tw)) 224 × Blocks m s r (length (now dst)) ⌝ }
+    requires { ⌜ Sized m r (length (now src)) × Lending m r (length (now tw)) 224 × (0 < w) × (w ≤ 4) × Blocks m s r (length (now dst)) ⌝ }
     ensures { λ _. ⌜ Done s r (outputOf false m r (now (src .entry)) (lentAt m r w (now (tw .entry)))) (now (dst .exit)) m ⌝ }
 {
     let mut t = [0.0f32; 224];

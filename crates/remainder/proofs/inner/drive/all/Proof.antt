@@ -1,6 +1,7 @@
 -- `remainder::inner::drive::all` meets its contract. Assumes nothing.
-use Rattle.remainder.proofs.Runs.{run-copied, run-kept}
 use borrow.Author.Needs.{needs}
+use Rattle.schedule.proofs.Buffers.{driven-copied, driven-kept}
+use Rattle.remainder.specs.Calls.{stageOf}
 use Rattle.remainder.proofs.inner.drive.all.Statement.{statement}
 use Rattle.remainder.proofs.inner.drive.all.Tie as tie
 
@@ -19,7 +20,7 @@ same-length-2 c = search needs
 returns : tie.Need-returns
 returns c =
     let a = c .before .before .before .before .before .before .before .before .before .before .before .before .before .before .before .before .args in
-    run-copied (a .plan) (a .m) (a .w) (a .«data» .now, a .scratch .now) (c .before .before .before .before .before .if1 .taken) _ _ (c .before .before .copy .ensures) (c .before .before .before .before .before .before .before .before .before .before .before .drive .ensures .1)
+    driven-copied (λ j. stageOf (a .plan) j (a .m) (a .w)) (a .«data» .now, a .scratch .now) (a .plan .count) (c .before .before .before .before .before .if1 .taken) _ _ (c .before .before .copy .ensures) (c .before .before .before .before .before .before .before .before .before .before .before .drive .ensures .1)
 
 same-length-3 : tie.Need-same-length-3
 same-length-3 c = search needs
@@ -30,7 +31,7 @@ same-length-4 c = search needs
 returns-2 : tie.Need-returns-2
 returns-2 c =
     let a = c .before .before .before .before .before .before .before .before .before .before .before .args in
-    run-kept (a .plan) (a .m) (a .w) (a .«data» .now, a .scratch .now) (c .if1 .left) _ _ (c .before .before .before .before .before .before .drive .ensures .0) (c .before .before .before .before .before .before .drive .ensures .1)
+    driven-kept (λ j. stageOf (a .plan) j (a .m) (a .w)) (a .«data» .now, a .scratch .now) (a .plan .count) (c .if1 .left) _ _ (c .before .before .before .before .before .before .drive .ensures .0) (c .before .before .before .before .before .before .drive .ensures .1)
 
 pub all-spec : {M : Type 1} → statement M
 all-spec =

@@ -7,9 +7,8 @@ use lib.ListN.{length}
 use borrow.Author.Needs.{needs}
 use Rattle.schedule.specs.Buffers.{Two, alternated}
 use Rattle.remainder.specs.Calls.{stageOf}
-use Rattle.remainder.proofs.Runs.{even-workable, odd-workable, even-next, odd-next, data-length, scratch-length}
-use borrow.Author.Needs.{needs}
-use native.Mathlib.Omega.{arith}
+use Rattle.schedule.proofs.Buffers.{even-next, odd-next}
+use Rattle.remainder.proofs.Runs.{even-workable, odd-workable, both-lengths}
 use Rattle.remainder.proofs.inner.drive.drive.Statement.{statement}
 use Rattle.remainder.proofs.inner.drive.drive.Tie as tie
 
@@ -28,14 +27,14 @@ work-requires c κs =
     let s = c .before .before .before .before .before .before .before in
     let a = s .args in
     let l = c .before .before .before .before .loop in
-    even-workable (a .plan) (a .m) (a .w) (a .«data» .now) (a .scratch .now) _ (s .pre) (l .k) (c .before .before .before .loop-test .taken) (c .before .before .if1 .taken) (l .«data») (length (l .scratch)) (l .inv .1 .0) (scratch-length (a .plan) (a .m) (a .w) (a .«data» .now) (a .scratch .now) _ (s .pre) (s .pre .wide) (l .k) (l .scratch) (l .inv .1 .1))
+    even-workable (a .plan) (a .m) (a .w) (a .«data» .now) (a .scratch .now) _ (s .pre) (l .k) (c .before .before .before .loop-test .taken) (c .before .before .if1 .taken) (l .«data») (length (l .scratch)) (l .inv .1 .0) (ap length (l .inv .1 .1) ∙ both-lengths (a .plan) (a .m) (a .w) (a .«data» .now) (a .scratch .now) _ (s .pre) (s .pre .wide) (l .k) .1)
 
 work-requires-2 : tie.Need-work-requires-2 Inv-loop μ-loop
 work-requires-2 c κs =
     let s = c .before .before .before .before .before .before .before in
     let a = s .args in
     let l = c .before .before .before .before .loop in
-    odd-workable (a .plan) (a .m) (a .w) (a .«data» .now) (a .scratch .now) _ (s .pre) (l .k) (c .before .before .before .loop-test .taken) (c .before .before .if1 .left) (l .scratch) (length (l .«data»)) (l .inv .1 .1) (data-length (a .plan) (a .m) (a .w) (a .«data» .now) (a .scratch .now) _ (s .pre) (s .pre .wide) (l .k) (l .«data») (l .inv .1 .0))
+    odd-workable (a .plan) (a .m) (a .w) (a .«data» .now) (a .scratch .now) _ (s .pre) (l .k) (c .before .before .before .loop-test .taken) (c .before .before .if1 .left) (l .scratch) (length (l .«data»)) (l .inv .1 .1) (ap length (l .inv .1 .0) ∙ both-lengths (a .plan) (a .m) (a .w) (a .«data» .now) (a .scratch .now) _ (s .pre) (s .pre .wide) (l .k) .0)
 
 add-k : tie.Need-add-k Inv-loop μ-loop
 add-k c = search needs
@@ -50,8 +49,8 @@ loop-again c =
     let l = c .before .before .loop in (
       omega (arith, c .before .loop-test .taken),
       ⊎-elim
-          (λ e. even-next (a .plan) (a .m) (a .w) (a .«data» .now) (a .scratch .now) _ (s .pre) (l .k) (l .«data») (l .scratch) (c .if1 .«data») (c .if1 .scratch) (e .0 .taken) (l .inv .1 .0) (e .6) (e .7 ∙ e .3 .ensures))
-          (λ e. odd-next (a .plan) (a .m) (a .w) (a .«data» .now) (a .scratch .now) _ (s .pre) (l .k) (l .«data») (l .scratch) (c .if1 .«data») (c .if1 .scratch) (e .0 .left) (l .inv .1 .1) (e .6 ∙ e .3 .ensures) (e .7))
+          (λ e. even-next (λ j. stageOf (a .plan) j (a .m) (a .w)) (a .«data» .now, a .scratch .now) (l .k) (l .«data») (l .scratch) (c .if1 .«data») (c .if1 .scratch) (e .0 .taken) (l .inv .1 .0) (e .6) (e .7 ∙ e .3 .ensures))
+          (λ e. odd-next (λ j. stageOf (a .plan) j (a .m) (a .w)) (a .«data» .now, a .scratch .now) (l .k) (l .«data») (l .scratch) (c .if1 .«data») (c .if1 .scratch) (e .0 .left) (l .inv .1 .1) (e .6 ∙ e .3 .ensures) (e .7))
           (c .if1 .came),
     )
 
@@ -60,14 +59,14 @@ same-length c =
     let s = c .before .before .before .before in
     let a = s .args in
     let l = c .before .loop in
-    data-length (a .plan) (a .m) (a .w) (a .«data» .now) (a .scratch .now) _ (s .pre) (s .pre .wide) (l .k) (l .«data») (l .inv .1 .0) ∙ sym (s .pre .lent .long)
+    ap length (l .inv .1 .0) ∙ both-lengths (a .plan) (a .m) (a .w) (a .«data» .now) (a .scratch .now) _ (s .pre) (s .pre .wide) (l .k) .0 ∙ sym (s .pre .lent .long)
 
 same-length-2 : tie.Need-same-length-2 Inv-loop μ-loop
 same-length-2 c =
     let s = c .before .before .before .before in
     let a = s .args in
     let l = c .before .loop in
-    scratch-length (a .plan) (a .m) (a .w) (a .«data» .now) (a .scratch .now) _ (s .pre) (s .pre .wide) (l .k) (l .scratch) (l .inv .1 .1) ∙ sym (s .pre .wide)
+    ap length (l .inv .1 .1) ∙ both-lengths (a .plan) (a .m) (a .w) (a .«data» .now) (a .scratch .now) _ (s .pre) (s .pre .wide) (l .k) .1 ∙ sym (s .pre .wide)
 
 returns : tie.Need-returns Inv-loop μ-loop
 returns c =

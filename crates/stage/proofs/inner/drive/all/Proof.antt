@@ -1,6 +1,10 @@
 -- `stage::inner::drive::all` meets its contract. Assumes nothing.
+use mathlib.Core.Logic.{⊎-elim}
+use mathlib.Core.Path.{ap, _∙_}
+use lib.ListN.{length}
 use borrow.Author.Needs.{needs}
-use Rattle.stage.proofs.Runs.{run-copied, run-kept}
+use Rattle.schedule.proofs.Buffers.{driven-copied, driven-kept}
+use Rattle.stage.specs.Runs.{stageIn}
 use Rattle.stage.proofs.inner.drive.all.Statement.{statement}
 use Rattle.stage.proofs.inner.drive.all.Tie as tie
 
@@ -10,27 +14,28 @@ drive-requires c κs = search needs
 copy-requires : tie.Need-copy-requires
 copy-requires c κs = search needs
 
+result-in-requires : tie.Need-result-in-requires
+result-in-requires c κs = search needs
+
 same-length : tie.Need-same-length
-same-length c = search needs
+same-length c =
+    let drive = c .before .before .before .before .before .before .before .drive in
+    ⊎-elim (λ e. ap length (e .6) ∙ e .3 .kept .1 .0 ∙ drive .kept .1 .1 .0) (λ e. ap length (e .1) ∙ drive .kept .1 .1 .0) (c .before .if1 .came)
 
 same-length-2 : tie.Need-same-length-2
 same-length-2 c = search needs
 
 returns : tie.Need-returns
 returns c =
-    let a = c .before .before .before .before .before .before .before .before .before .before .before .before .before .before .before .before .before .args in
-    run-copied (a .plan) (a .width) (a .twiddles .now) (a .«data» .now, a .scratch .now) (c .before .before .before .before .before .if1 .taken) _ _ (c .before .before .copy .ensures) (c .before .before .before .before .before .before .before .before .before .before .before .drive .ensures .1)
-
-same-length-3 : tie.Need-same-length-3
-same-length-3 c = search needs
-
-same-length-4 : tie.Need-same-length-4
-same-length-4 c = search needs
-
-returns-2 : tie.Need-returns-2
-returns-2 c =
-    let a = c .before .before .before .before .before .before .before .before .before .before .before .before .args in
-    run-kept (a .plan) (a .width) (a .twiddles .now) (a .«data» .now, a .scratch .now) (c .if1 .left) _ _ (c .before .before .before .before .before .before .drive .ensures .0) (c .before .before .before .before .before .before .drive .ensures .1)
+    let drive = c .before .before .before .before .before .before .before .drive in
+    let a = c .before .before .before .before .before .before .before .before .before .before .before .before .before .args in
+    let f = stageIn (a .plan) (a .width) (a .twiddles .now) in
+    let left =
+    ⊎-elim
+    (λ e. driven-copied f (a .«data» .now, a .scratch .now) (a .plan .count) (e .0 .taken) _ _ (e .6 ∙ e .3 .ensures) (drive .ensures .1))
+    (λ e. driven-kept f (a .«data» .now, a .scratch .now) (a .plan .count) (e .0 .left) _ _ (e .1 ∙ drive .ensures .0) (drive .ensures .1))
+    (c .before .if1 .came) in
+    (left .0, (left .1, c .result-in .ensures))
 
 pub all-spec : {M : Type 1} → statement M
 all-spec =
@@ -38,9 +43,7 @@ all-spec =
     (tie.spec
     drive-requires
     copy-requires
+    result-in-requires
     same-length
     same-length-2
-    returns
-    same-length-3
-    same-length-4
-    returns-2)
+    returns)

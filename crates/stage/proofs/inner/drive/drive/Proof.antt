@@ -10,8 +10,9 @@ use Rattle.plan.specs.Counts.{twiddleStart}
 use Rattle.plan.proofs.Counts.{count-small, start-next, start-none}
 use Rattle.twiddle.proofs.Counts.{start-few}
 use Rattle.schedule.specs.Buffers.{Two, alternated}
+use Rattle.schedule.proofs.Buffers.{even-next, odd-next}
 use Rattle.stage.specs.Runs.{stageIn}
-use Rattle.stage.proofs.Runs.{steppable, even-next, odd-next, data-length, scratch-length}
+use Rattle.stage.proofs.Runs.{steppable, both-lengths}
 use Rattle.stage.proofs.inner.drive.drive.Statement.{statement}
 use Rattle.stage.proofs.inner.drive.drive.Tie as tie
 
@@ -35,8 +36,8 @@ one-requires c κs =
     let a = s .args in
     let l = c .before .before .before .before .loop in
     steppable (a .plan) (a .width) (a .twiddles .now) (a .«data» .now) (a .scratch .now) _ (s .pre) (l .k) (c .before .before .before .loop-test .taken) _ _ _
-    (data-length (a .plan) (a .width) (a .twiddles .now) (a .«data» .now) (a .scratch .now) _ (s .pre) (l .k) (l .«data») (l .inv .2))
-    (scratch-length (a .plan) (a .width) (a .twiddles .now) (a .«data» .now) (a .scratch .now) _ (s .pre) (l .k) (l .scratch) (l .inv .3)) (l .inv .1)
+    (ap length (l .inv .2) ∙ both-lengths (a .plan) (a .width) (a .twiddles .now) (a .«data» .now) (a .scratch .now) _ (s .pre) (l .k) .0)
+    (ap length (l .inv .3) ∙ both-lengths (a .plan) (a .width) (a .twiddles .now) (a .«data» .now) (a .scratch .now) _ (s .pre) (l .k) .1) (l .inv .1)
 
 one-requires-2 : tie.Need-one-requires-2 Inv-loop μ-loop
 one-requires-2 c κs =
@@ -44,8 +45,8 @@ one-requires-2 c κs =
     let a = s .args in
     let l = c .before .before .before .before .loop in
     steppable (a .plan) (a .width) (a .twiddles .now) (a .«data» .now) (a .scratch .now) _ (s .pre) (l .k) (c .before .before .before .loop-test .taken) _ _ _
-    (scratch-length (a .plan) (a .width) (a .twiddles .now) (a .«data» .now) (a .scratch .now) _ (s .pre) (l .k) (l .scratch) (l .inv .3))
-    (data-length (a .plan) (a .width) (a .twiddles .now) (a .«data» .now) (a .scratch .now) _ (s .pre) (l .k) (l .«data») (l .inv .2)) (l .inv .1)
+    (ap length (l .inv .3) ∙ both-lengths (a .plan) (a .width) (a .twiddles .now) (a .«data» .now) (a .scratch .now) _ (s .pre) (l .k) .1)
+    (ap length (l .inv .2) ∙ both-lengths (a .plan) (a .width) (a .twiddles .now) (a .«data» .now) (a .scratch .now) _ (s .pre) (l .k) .0) (l .inv .1)
 
 twiddle-count-requires : tie.Need-twiddle-count-requires Inv-loop μ-loop
 twiddle-count-requires c κs = (c .before .before .before .before .before .before .pre .planned, c .before .loop-test .taken)
@@ -71,8 +72,8 @@ loop-again c =
     let j = c .before .if1 in
     let next =
     ⊎-elim
-    (λ e. even-next (a .plan) (a .width) (a .twiddles .now) (a .«data» .now) (a .scratch .now) _ (s .pre) (l .k) (l .«data») (l .scratch) (j .«data») (j .scratch) (e .0 .taken) (l .inv .2) (e .6) (e .7 ∙ e .3 .ensures))
-    (λ e. odd-next (a .plan) (a .width) (a .twiddles .now) (a .«data» .now) (a .scratch .now) _ (s .pre) (l .k) (l .«data») (l .scratch) (j .«data») (j .scratch) (e .0 .left) (l .inv .3) (e .6 ∙ e .3 .ensures) (e .7))
+    (λ e. even-next (stageIn (a .plan) (a .width) (a .twiddles .now)) (a .«data» .now, a .scratch .now) (l .k) (l .«data») (l .scratch) (j .«data») (j .scratch) (e .0 .taken) (l .inv .2) (e .6) (e .7 ∙ e .3 .ensures))
+    (λ e. odd-next (stageIn (a .plan) (a .width) (a .twiddles .now)) (a .«data» .now, a .scratch .now) (l .k) (l .«data») (l .scratch) (j .«data») (j .scratch) (e .0 .left) (l .inv .3) (e .6 ∙ e .3 .ensures) (e .7))
     (j .came) in (
       omega (arith, c .before .before .loop-test .taken),
       omega (arith, l .inv .1, c .twiddle-count .ensures, start-next (a .plan .half) (a .plan .radices) (l .k)),
@@ -85,14 +86,14 @@ same-length c =
     let s = c .before .before .before .before .before in
     let a = s .args in
     let l = c .before .loop in
-    data-length (a .plan) (a .width) (a .twiddles .now) (a .«data» .now) (a .scratch .now) _ (s .pre) (l .k) (l .«data») (l .inv .2) ∙ sym (s .pre .long)
+    ap length (l .inv .2) ∙ both-lengths (a .plan) (a .width) (a .twiddles .now) (a .«data» .now) (a .scratch .now) _ (s .pre) (l .k) .0 ∙ sym (s .pre .long)
 
 same-length-2 : tie.Need-same-length-2 Inv-loop μ-loop
 same-length-2 c =
     let s = c .before .before .before .before .before in
     let a = s .args in
     let l = c .before .loop in
-    scratch-length (a .plan) (a .width) (a .twiddles .now) (a .«data» .now) (a .scratch .now) _ (s .pre) (l .k) (l .scratch) (l .inv .3) ∙ sym (s .pre .wide)
+    ap length (l .inv .3) ∙ both-lengths (a .plan) (a .width) (a .twiddles .now) (a .«data» .now) (a .scratch .now) _ (s .pre) (l .k) .1 ∙ sym (s .pre .wide)
 
 returns : tie.Need-returns Inv-loop μ-loop
 returns c =

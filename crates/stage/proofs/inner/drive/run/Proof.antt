@@ -10,18 +10,15 @@ use Rattle.stage.proofs.inner.drive.run.Tie as tie
 all-requires : tie.Need-all-requires
 all-requires c κs = search needs
 
-result-in-requires : tie.Need-result-in-requires
-result-in-requires c κs = search needs
-
 part-requires : tie.Need-part-requires
 part-requires c κs = search needs
 
 returns : tie.Need-returns
 returns c =
-    let a = c .before .before .before .before .before .before .before .before .before .before .before .before .args in
-    let o = c .before .before .before .before .before .before .all in (
-      handed (a .plan) (a .width) (a .twiddles .now) (a .«data» .now, a .scratch .now) (c .before .result-in .result) _ _ _ (c .before .result-in .ensures) (o .ensures .0) (o .ensures .1) (c .part .ensures .0),
-      c .part .ensures .1 ∙ ap (λ (x : Buffer). heldIn x (a .«data» .ptr, a .scratch .ptr)) (c .before .result-in .ensures),
+    let a = c .before .before .before .before .before .before .before .before .before .before .before .args in
+    let o = c .before .before .before .before .before .all in (
+      handed (a .plan) (a .width) (a .twiddles .now) (a .«data» .now, a .scratch .now) (o .result) _ _ _ (o .ensures .1 .1) (o .ensures .0) (o .ensures .1 .0) (c .part .ensures .0),
+      c .part .ensures .1 ∙ ap (λ (x : Buffer). heldIn x (a .«data» .ptr, a .scratch .ptr)) (o .ensures .1 .1),
     )
 
 pub run-spec : {M : Type 1} → statement M
@@ -29,6 +26,5 @@ run-spec =
     tie.close
     (tie.spec
     all-requires
-    result-in-requires
     part-requires
     returns)

@@ -30,15 +30,15 @@ sub-gather-2 : tie.Need-sub-gather-2 Inv-loop μ-loop
 sub-gather-2 c = omega (arith, c .before .before .before .before .pre .0 .some)
 
 mul-gather-2 : tie.Need-mul-gather-2 Inv-loop μ-loop
-mul-gather-2 c = omega (arith, small-lanes (c .before .before .before .before .args .len) (c .before .before .before .before .args .r) (c .before .before .before .before .pre .2) (c .before .before .before .before .pre .0 .few))
+mul-gather-2 c = omega (arith, small-lanes (c .before .before .before .before .args .len) (c .before .before .before .before .args .r) (c .before .before .before .before .pre .4) (c .before .before .before .before .pre .0 .few))
 
 gather-requires : tie.Need-gather-requires Inv-loop μ-loop
 gather-requires c κs =
     let a = c .before .before .before .before .args in
     let k = c .before .before .before .before .pre .0 in (
-      omega (arith, small-lanes (a .len) (a .r) (c .before .before .before .before .pre .2) (k .few), k .local),
+      omega (arith, small-lanes (a .len) (a .r) (c .before .before .before .before .pre .4) (k .few), k .local),
       λ u l.
-          omega (arith, mul-le-mul-right (a .r - 1) (c .before .before .before .before .pre .1), k .lent),
+          omega (arith, mul-le-mul-right (a .r - 1) (c .before .before .before .before .pre .3), k .lent),
     )
 
 loop-holds : tie.Need-loop-holds Inv-loop μ-loop
@@ -48,7 +48,7 @@ add-fetch-one : tie.Need-add-fetch-one Inv-loop μ-loop
 add-fetch-one c = search needs
 
 fetch-one-requires : tie.Need-fetch-one-requires Inv-loop μ-loop
-fetch-one-requires c κs = (rw (c .before .before .loop .inv .1) (c .before .before .before .before .before .before .pre .0), omega arith, omega arith)
+fetch-one-requires c κs = (rw (c .before .before .loop .inv .1) (c .before .before .before .before .before .before .pre .0), omega arith, omega arith, omega arith, omega arith)
 
 add-j : tie.Need-add-j Inv-loop μ-loop
 add-j c = search needs

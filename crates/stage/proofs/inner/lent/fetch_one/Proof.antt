@@ -20,46 +20,46 @@ mul-if1 : tie.Need-mul-if1
 mul-if1 c = omega (arith, div-mul-le-self (c .before .before .args .m) (c .before .before .args .w), c .before .before .pre .0 .small)
 
 mul-gather : tie.Need-mul-gather
-mul-gather c = omega (arith, small-lane (c .before .before .before .before .args .j) (c .before .before .before .before .args .r) (c .before .before .before .before .pre .2) (c .before .before .before .before .pre .0 .few))
+mul-gather c = omega (arith, small-lane (c .before .before .before .before .args .j) (c .before .before .before .before .args .r) (c .before .before .before .before .pre .4) (c .before .before .before .before .pre .0 .few))
 
 div-gather : tie.Need-div-gather
 div-gather c = search needs
 
 mul-gather-2 : tie.Need-mul-gather-2
-mul-gather-2 c = omega (arith, small-width (c .before .before .before .before .args .w) (c .before .before .before .before .args .m) (c .before .before .before .before .args .r) (c .before .before .before .before .args .i) (c .before .before .before .before .pre .0 .narrow) (c .before .before .before .before .pre .0 .small) (c .before .before .before .before .pre .0 .few) (c .before .before .before .before .pre .1))
+mul-gather-2 c = omega (arith, small-width (c .before .before .before .before .args .w) (c .before .before .before .before .args .m) (c .before .before .before .before .args .r) (c .before .before .before .before .args .i) (c .before .before .before .before .pre .2) (c .before .before .before .before .pre .0 .small) (c .before .before .before .before .pre .0 .few) (c .before .before .before .before .pre .3))
 
 mul-gather-3 : tie.Need-mul-gather-3
-mul-gather-3 c = omega (arith, small-block (c .before .before .before .before .args .w) (c .before .before .before .before .args .m) (c .before .before .before .before .args .r) (c .before .before .before .before .args .i) (c .before .before .before .before .pre .0 .narrow) (c .before .before .before .before .pre .0 .small) (c .before .before .before .before .pre .0 .few) (c .before .before .before .before .pre .1))
+mul-gather-3 c = omega (arith, small-block (c .before .before .before .before .args .w) (c .before .before .before .before .args .m) (c .before .before .before .before .args .r) (c .before .before .before .before .args .i) (c .before .before .before .before .pre .2) (c .before .before .before .before .pre .0 .small) (c .before .before .before .before .pre .0 .few) (c .before .before .before .before .pre .3))
 
 rem-gather : tie.Need-rem-gather
 rem-gather c = search needs
 
 add-gather : tie.Need-add-gather
-add-gather c = omega (arith, small-block (c .before .before .before .before .args .w) (c .before .before .before .before .args .m) (c .before .before .before .before .args .r) (c .before .before .before .before .args .i) (c .before .before .before .before .pre .0 .narrow) (c .before .before .before .before .pre .0 .small) (c .before .before .before .before .pre .0 .few) (c .before .before .before .before .pre .1), mod-lt (c .before .before .before .before .args .i) (c .before .before .before .before .pre .0 .width), c .before .before .before .before .pre .0 .narrow)
+add-gather c = omega (arith, small-block (c .before .before .before .before .args .w) (c .before .before .before .before .args .m) (c .before .before .before .before .args .r) (c .before .before .before .before .args .i) (c .before .before .before .before .pre .2) (c .before .before .before .before .pre .0 .small) (c .before .before .before .before .pre .0 .few) (c .before .before .before .before .pre .3), mod-lt (c .before .before .before .before .args .i) (c .before .before .before .before .pre .1), c .before .before .before .before .pre .2)
 
 gather-requires : tie.Need-gather-requires
 gather-requires c κs =
     let a = c .before .before .before .before .args in
     let k = c .before .before .before .before .pre .0 in (
-      omega (arith, small-lane (c .before .before .before .before .args .j) (c .before .before .before .before .args .r) (c .before .before .before .before .pre .2) (c .before .before .before .before .pre .0 .few), k .local, k .few),
+      omega (arith, small-lane (c .before .before .before .before .args .j) (c .before .before .before .before .args .r) (c .before .before .before .before .pre .4) (c .before .before .before .before .pre .0 .few), k .local, k .few),
       λ u l.
-          let below = place-lt (a .m) (a .r) (a .w) (a .i) (u + 1) (k .width) (c .before .before .before .before .pre .1) (omega arith) (omega arith) in
+          let below = place-lt (a .m) (a .r) (a .w) (a .i) (u + 1) (c .before .before .before .before .pre .1) (c .before .before .before .before .pre .3) (omega arith) (omega arith) in
           omega (arith, below, place-in (a .m) (a .r) (a .w) (a .i) u (c .before .if1 .taken), k .lent),
     )
 
 mul-gather-4 : tie.Need-mul-gather-4
-mul-gather-4 c = omega (arith, small-lane (c .before .before .before .before .args .j) (c .before .before .before .before .args .r) (c .before .before .before .before .pre .2) (c .before .before .before .before .pre .0 .few))
+mul-gather-4 c = omega (arith, small-lane (c .before .before .before .before .args .j) (c .before .before .before .before .args .r) (c .before .before .before .before .pre .4) (c .before .before .before .before .pre .0 .few))
 
 mul-gather-5 : tie.Need-mul-gather-5
-mul-gather-5 c = omega (arith, small-past (c .before .before .before .before .args .w) (c .before .before .before .before .args .m) (c .before .before .before .before .args .r) (c .before .before .before .before .args .i) (c .before .before .before .before .pre .0 .narrow) (c .before .before .before .before .pre .0 .small) (c .before .before .before .before .pre .0 .few) (c .before .before .before .before .pre .1))
+mul-gather-5 c = omega (arith, small-past (c .before .before .before .before .args .w) (c .before .before .before .before .args .m) (c .before .before .before .before .args .r) (c .before .before .before .before .args .i) (c .before .before .before .before .pre .2) (c .before .before .before .before .pre .0 .small) (c .before .before .before .before .pre .0 .few) (c .before .before .before .before .pre .3))
 
 gather-requires-2 : tie.Need-gather-requires-2
 gather-requires-2 c κs =
     let a = c .before .before .before .before .args in
     let k = c .before .before .before .before .pre .0 in (
-      omega (arith, small-lane (c .before .before .before .before .args .j) (c .before .before .before .before .args .r) (c .before .before .before .before .pre .2) (c .before .before .before .before .pre .0 .few), k .local, k .few),
+      omega (arith, small-lane (c .before .before .before .before .args .j) (c .before .before .before .before .args .r) (c .before .before .before .before .pre .4) (c .before .before .before .before .pre .0 .few), k .local, k .few),
       λ u l.
-          let below = place-lt (a .m) (a .r) (a .w) (a .i) (u + 1) (k .width) (c .before .before .before .before .pre .1) (omega arith) (omega arith) in
+          let below = place-lt (a .m) (a .r) (a .w) (a .i) (u + 1) (c .before .before .before .before .pre .1) (c .before .before .before .before .pre .3) (omega arith) (omega arith) in
           omega (arith, below, place-past (a .m) (a .r) (a .w) (a .i) u (c .before .if1 .left), k .lent),
     )
 

@@ -30,7 +30,7 @@ slice-aggregate-fetch : tie.Need-slice-aggregate-fetch Inv-loop μ-loop
 slice-aggregate-fetch c = sym (c .before .before .before .loop .inv .2)
 
 fetch-requires : tie.Need-fetch-requires Inv-loop μ-loop
-fetch-requires c κs = (rw (c .before .before .before .loop .inv .2) (c .before .before .before .before .before .before .before .pre .1), omega (arith, c .before .least .ensures .0), c .before .least .ensures .1)
+fetch-requires c κs = (rw (c .before .before .before .loop .inv .2) (c .before .before .before .before .before .before .before .pre .1), omega arith, omega arith, omega (arith, c .before .least .ensures .0), c .before .least .ensures .1)
 
 slice-aggregate-lanes : tie.Need-slice-aggregate-lanes Inv-loop μ-loop
 slice-aggregate-lanes c = sym (c .before .before .fetch .kept .1 .0 ∙ c .before .before .before .before .before .before .loop .inv .2)
@@ -57,7 +57,7 @@ store-requires : tie.Need-store-requires Inv-loop μ-loop
 store-requires c κs =
     let n = c .before .before .before .before .before .before .before .before .before .before .before .before .least .ensures in
     let l = c .before .before .before .before .before .before .before .before .before .before .before .before .before .before .loop in
-    (record { blocks = rw (l .inv .1) (c .before .before .before .before .before .before .before .before .before .before .before .before .before .before .before .before .before .before .pre .2); within = omega (arith, n .0); lanes = n .1 }, c .before .before .before .before .before .lanes .kept .1 .1 .0 ∙ l .inv .3, c .before .before .before .before .before .lanes .kept .1 .1 .1 .0 ∙ l .inv .4)
+    (record { blocks = rw (l .inv .1) (c .before .before .before .before .before .before .before .before .before .before .before .before .before .before .before .before .before .before .pre .4); within = omega (arith, n .0); lanes = n .1 }, c .before .before .before .before .before .lanes .kept .1 .1 .0 ∙ l .inv .3, c .before .before .before .before .before .lanes .kept .1 .1 .1 .0 ∙ l .inv .4)
 
 add-i : tie.Need-add-i Inv-loop μ-loop
 add-i c = omega (arith, c .before .before .before .before .before .before .before .before .before .before .before .before .before .before .before .least .ensures .0)

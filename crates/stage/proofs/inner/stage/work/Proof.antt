@@ -34,6 +34,8 @@ later-stage-requires c κs =
     let a = c .before .before .before .before .before .before .before in (
       work-sized (a .args .t1) (a .args .j) (a .args .w) _ _ _ (a .pre),
       work-lending (a .args .t1) (a .args .j) (a .args .w) _ _ _ (a .pre) (c .before .before .if1 .left),
+      a .pre .width,
+      a .pre .narrow,
       rw (c .stride .ensures) (work-blocks (a .args .t1) (a .args .j) (a .args .w) _ _ _ (a .pre)),
     )
 
