@@ -14,8 +14,8 @@ use Rattle.turn.specs.Turns.{+0, turnOf, wordsOf}
 use Rattle.twiddle.specs.Calls.{Slices, fillVerdict, filled}
 use Rattle.twiddle.specs.declared.inner.ends.Direction.{Direction}
 use Rattle.twiddle.specs.declared.inner.ends.Direction.the-variants.{Forward, Inverse}
+use Rattle.kernel.specs.Floats.{stageOf as stageWords}
 use Rattle.stage.specs.Calls as Floats
-use Rattle.stage.specs.Floats.{stageOf as stageWords}
 use Rattle.remainder.specs.Calls.{stageVerdict, stageOf, runVerdict, runOf}
 use Rattle.ladlespindle.specs.declared.Answer.{Answer}
 use Rattle.ladlespindle.specs.declared.Ran.{Ran}

@@ -1,5 +1,5 @@
 // Words drawn from a seed, as the oracle draws them.
-use crate::floats::float;
+use crate::bits::float;
 use crate::words::MODULUS;
 ghost use Prim.Native.Nat.{_≤_};
 

@@ -1,9 +1,9 @@
 // Replays recorded stages: puts each record's question to the library and counts the answers that differ.
 // The records are in the files `stages`, `cells` and `runs`, or in the three files that the arguments name;
 // oracle/src/text.rs says what stands in a record.
+mod bits;
 mod cells;
 mod draws;
-mod floats;
 mod question;
 mod rooms;
 mod runs;

@@ -1,6 +1,6 @@
 // Rows of words: read from lines of nine bytes, summed, compared and copied.
-use crate::floats::bits;
-use crate::floats::float;
+use crate::bits::bits;
+use crate::bits::float;
 use crate::rooms::lines;
 use crate::text::shows_word;
 use crate::text::word;

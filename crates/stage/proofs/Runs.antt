@@ -16,10 +16,10 @@ use Rattle.schedule.specs.Stage.{plain, stage}
 use Rattle.schedule.proofs.Buffers.{both-long}
 use Rattle.schedule.proofs.Cells.{length-stage}
 use Rattle.twiddle.proofs.Counts.{start-up}
-use Rattle.stage.specs.Floats.{floats, stageOf}
-use Rattle.stage.specs.Parts.{Workable}
+use Rattle.floats.proofs.Flat.{length-flat}
+use Rattle.kernel.specs.Floats.{floats, stageOf}
+use Rattle.kernel.specs.Parts.{Workable}
 use Rattle.stage.specs.Runs.{ownOf, stageIn, runOf, Drivable, Steppable}
-use Rattle.stage.proofs.Flat.{length-flat}
 
 -- the twiddles of stage k end within those of all stages
 pub own-within : (p : Record) (k : ℕ) → k < p .count → twiddleStart (p .half) (p .radices) k + twiddleCount (p .half) (p .radices) k ≤ stageTwiddles p

@@ -22,13 +22,13 @@ use Rattle.schedule.proofs.Buffers.{sourceBy, source-run, held}
 use Rattle.schedule.proofs.Cells.{iteration-lt}
 use Rattle.schedule.proofs.Plans.{use-parts, use-radix, use-radix-some, use-stride-some}
 use Rattle.twiddle.specs.Places.{place}
-use Rattle.stage.specs.declared.inner.complex.Complex.{Complex}
-use Rattle.stage.specs.Complexes.{cx, times, blank, cell, paired, flat}
-use Rattle.stage.specs.Floats.{floats, lentAt, stageOf}
+use Rattle.floats.specs.declared.complex.Complex.{Complex}
+use Rattle.floats.specs.Complexes.{cx, times, blank, cell, paired, flat}
+use Rattle.floats.proofs.Flat.{paired-flat, flat-paired}
+use Rattle.kernel.specs.Floats.{floats, lentAt, stageOf}
+use Rattle.kernel.proofs.Kernel.{total-same}
+use Rattle.kernel.proofs.Widths.{place-lt}
 use Rattle.stage.specs.Runs.{ownOf, stageIn, runOf, lentTo}
-use Rattle.stage.proofs.Flat.{paired-flat, flat-paired}
-use Rattle.stage.proofs.Kernel.{total-same}
-use Rattle.stage.proofs.Widths.{place-lt}
 
 tabulate-same : {A : Type 0} (k n : ℕ) (f g : ℕ → A) → ((i : ℕ) → i < k → f (n + i) ≡ g (n + i)) → tabulate k n f ≡ tabulate k n g
 unfolding tabulate

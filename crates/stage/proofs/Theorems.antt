@@ -22,10 +22,10 @@ use Rattle.twiddle.specs.Calls.{Slices, Fills}
 use Rattle.twiddle.specs.declared.inner.ends.Direction.{Direction}
 use Rattle.twiddle.proofs.Theorems.{filled-twiddle}
 use Rattle.twiddle.proofs.Verdicts.{Taken, taken, width-bounds}
+use Rattle.floats.specs.Complexes.{cx, paired, flat}
+use Rattle.kernel.specs.Floats.{floats, lentAt, stageOf}
+use Rattle.kernel.specs.Parts.{Workable}
 use Rattle.stage.specs.Calls.{Stages, stageVerdict}
-use Rattle.stage.specs.Complexes.{cx, paired, flat}
-use Rattle.stage.specs.Floats.{floats, lentAt, stageOf}
-use Rattle.stage.specs.Parts.{Workable}
 use Rattle.stage.specs.Runs.{ownOf, stageIn, runOf, lentTo, turning, Drivable}
 use Rattle.stage.proofs.Same.{Agree, AgreeAll, plan-agree, run-agree, stage-lent, run-lent}
 use Rattle.stage.proofs.Verdicts.{stage-workable}

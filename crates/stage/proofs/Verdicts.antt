@@ -18,9 +18,9 @@ use Rattle.plan.specs.Record.{isPlanned}
 use Rattle.plan.specs.declared.Record.{Record}
 use Rattle.twiddle.specs.Calls.{isWidth}
 use Rattle.twiddle.proofs.Verdicts.{width-bounds}
+use Rattle.floats.specs.Scan.{firstUnfit}
+use Rattle.kernel.specs.Parts.{Workable}
 use Rattle.stage.specs.Calls.{sizeRows, numberRows, sizeVerdict, numberVerdict, stageVerdict}
-use Rattle.stage.specs.Parts.{Workable}
-use Rattle.stage.specs.Scan.{firstUnfit}
 
 -- ---- which row decides
 

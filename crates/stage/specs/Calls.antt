@@ -12,8 +12,8 @@ use Rattle.plan.specs.Counts.{twiddleCount}
 use Rattle.plan.specs.Record.{isPlanned}
 use Rattle.plan.specs.declared.Record.{Record}
 use Rattle.twiddle.specs.Calls.{isWidth}
-use Rattle.stage.specs.Floats.{stageOf}
-use Rattle.stage.specs.Scan.{firstUnfit}
+use Rattle.floats.specs.Scan.{firstUnfit}
+use Rattle.kernel.specs.Floats.{stageOf}
 
 -- refusals 5, 15, 6 and 8 of slices of so many words, in this order: 2h in, 2h out, two for each of the stage's own twiddles
 abbrev pub sizeRows : Record → (j W input output twiddles : ℕ) → List Row

@@ -13,9 +13,9 @@ use Rattle.schedule.specs.Plans.{inUse}
 use Rattle.schedule.specs.Stage.{twiddleTurn}
 use Rattle.turn.specs.Turns.{turnOf, wordsOf}
 use Rattle.twiddle.specs.Places.{place}
-use Rattle.stage.specs.declared.inner.complex.Complex.{Complex}
-use Rattle.stage.specs.Complexes.{cx, cell}
-use Rattle.stage.specs.Floats.{stageOf}
+use Rattle.floats.specs.declared.complex.Complex.{Complex}
+use Rattle.floats.specs.Complexes.{cx, cell}
+use Rattle.kernel.specs.Floats.{stageOf}
 
 -- the words of stage j's own twiddles, in those of all stages
 abbrev pub ownOf : Record → (tw : List Float) → (j : ℕ) → List Float

@@ -1,5 +1,5 @@
 // Which plans, stages, widths, lengths and numbers are taken.
-use crate::inner::scan::first_unfit;
+use floats::inner::scan::first_unfit;
 use plan::Record;
 use plan::inner::records::is_planned;
 use plan::inner::stages::twiddle_count;

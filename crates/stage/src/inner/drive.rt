@@ -1,5 +1,5 @@
 // All stages of a run, from one buffer to the other and back.
-use crate::inner::stage::work;
+use kernel::inner::stage::work;
 use plan::Buffer;
 use plan::Record;
 use plan::inner::stages::result_in;

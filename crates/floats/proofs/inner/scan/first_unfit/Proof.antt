@@ -1,0 +1,72 @@
+-- `floats::inner::scan::first_unfit` meets its contract. Assumes nothing.
+use borrow.Author.Tests.{not-true, not-false}
+use Rattle.floats.specs.Scan.{within, Passed}
+use Rattle.floats.proofs.Scan.{first-pass, first-fail, first-end, first-unfit}
+use lib.ListN.{length}
+use Prim.Native.Nat.{_≤_, _-_}
+use mathlib.Core.Path.{sym, _∙_}
+use borrow.Author.Needs.{needs}
+use Rattle.floats.proofs.inner.scan.first_unfit.Statement.{statement}
+use Rattle.floats.proofs.inner.scan.first_unfit.Tie as tie
+
+abbrev Inv-loop : tie.InvT-loop
+Inv-loop xs b i₀ i = (i ≤ length xs) × Passed b xs i
+
+abbrev μ-loop : tie.MeasureT-loop
+μ-loop xs b i₀ i = length xs - i
+
+passed-requires : tie.Need-passed-requires Inv-loop μ-loop
+passed-requires c κs = search needs
+
+loop-holds : tie.Need-loop-holds Inv-loop μ-loop
+loop-holds c = (c .passed .ensures .0, c .passed .ensures .1)
+
+mul-within : tie.Need-mul-within Inv-loop μ-loop
+mul-within c = search needs
+
+shared-slice-read-within : tie.Need-shared-slice-read-within Inv-loop μ-loop
+shared-slice-read-within c = search needs
+
+within-requires : tie.Need-within-requires Inv-loop μ-loop
+within-requires c κs = search needs
+
+add-i : tie.Need-add-i Inv-loop μ-loop
+add-i c = search needs
+
+loop-less : tie.Need-loop-less Inv-loop μ-loop
+loop-less c = search needs
+
+loop-again : tie.Need-loop-again Inv-loop μ-loop
+loop-again c =
+    let l = c .before .before .before .before .loop in
+    let a = c .before .before .before .before .before .before .before .args in
+    (search needs, first-pass (within (a .b)) (a .xs .now) (l .i) (search needs) (sym (c .before .within .ensures) ∙ not-false _ (c .if2 .left)) (l .inv .1))
+
+returns : tie.Need-returns Inv-loop μ-loop
+returns c =
+    let a = c .before .before .before .before .args in
+    let l = c .before .loop in
+    first-unfit (a .b) (a .xs .now) _ (sym (first-end (within (a .b)) (a .xs .now) (l .i) (search needs) (search needs) (l .inv .1)))
+
+returns-2 : tie.Need-returns-2 Inv-loop μ-loop
+returns-2 c =
+    let l = c .before .before .before .before .loop in
+    let a = c .before .before .before .before .before .before .before .args in
+    first-unfit (a .b) (a .xs .now) _ (sym (first-fail (within (a .b)) (a .xs .now) (l .i) (search needs) (sym (c .before .within .ensures) ∙ not-true _ (c .if2 .taken)) (l .inv .1)))
+
+pub first-unfit-spec : {M : Type 1} → statement M
+first-unfit-spec =
+    tie.close
+    (tie.spec
+    Inv-loop
+    μ-loop
+    passed-requires
+    loop-holds
+    mul-within
+    shared-slice-read-within
+    within-requires
+    add-i
+    loop-less
+    loop-again
+    returns
+    returns-2)

@@ -1,0 +1,58 @@
+-- `floats::inner::scan::passed` meets its contract. Assumes nothing.
+use Prim.Native.Nat.{_≤_, _+_, _*_}
+use mathlib.Core.Path.{sym}
+use native.Mathlib.Nat.{zero-add}
+use native.Mathlib.Omega.{arith}
+use borrow.Author.Tests.{not-false}
+use lib.ListN.{length}
+use borrow.Author.Needs.{needs}
+use Rattle.floats.specs.Scan.{Passed}
+use Rattle.floats.proofs.inner.scan.passed.Statement.{statement}
+use Rattle.floats.proofs.inner.scan.passed.Tie as tie
+
+abbrev Inv-loop : tie.InvT-loop
+Inv-loop xs b i₀ left₀ i left = (i + 16 * left ≤ length xs) × Passed b xs i
+
+abbrev μ-loop : tie.MeasureT-loop
+μ-loop xs b i₀ left₀ i left = left
+
+loop-holds : tie.Need-loop-holds Inv-loop μ-loop
+loop-holds c = (search needs, sym (zero-add _))
+
+all-within-requires : tie.Need-all-within-requires Inv-loop μ-loop
+all-within-requires c κs = search needs
+
+add-i : tie.Need-add-i Inv-loop μ-loop
+add-i c = search needs
+
+sub-left : tie.Need-sub-left Inv-loop μ-loop
+sub-left c = search needs
+
+loop-less : tie.Need-loop-less Inv-loop μ-loop
+loop-less c = search needs
+
+loop-again : tie.Need-loop-again Inv-loop μ-loop
+loop-again c =
+    let l = c .before .before .before .loop in
+    (omega (arith, l .inv .0, c .before .before .if1 .left), c .before .all-within .ensures (not-false _ (c .if2 .left)) (l .inv .1))
+
+returns : tie.Need-returns Inv-loop μ-loop
+returns c = let l = c .before .loop in (omega (arith, l .inv .0), l .inv .1)
+
+returns-2 : tie.Need-returns-2 Inv-loop μ-loop
+returns-2 c = let l = c .before .before .before .loop in (omega (arith, l .inv .0), l .inv .1)
+
+pub passed-spec : {M : Type 1} → statement M
+passed-spec =
+    tie.close
+    (tie.spec
+    Inv-loop
+    μ-loop
+    loop-holds
+    all-within-requires
+    add-i
+    sub-left
+    loop-less
+    loop-again
+    returns
+    returns-2)

@@ -1,0 +1,65 @@
+// The first number of a slice that is not finite, or larger than a bound in magnitude.
+ghost use mathlib.Core.Path.{_≡_};
+ghost use mathlib.Core.Bool.{true};
+ghost use Prim.Native.Nat.{ℕ, _+_, _≤_};
+ghost use lib.ListN.{length};
+ghost use Rattle.floats.specs.Scan.{firstUnfit, bound, Passed, within as Scan·within};
+
+// Whether x is at most b in magnitude: false at a NaN.
+fn within(x: f32, b: f32) -> bool
+    ensures { λ r. ⌜ r ≡ Scan·within b x ⌝ }
+{
+    x <= b && -b <= x
+}
+
+// Whether the sixteen numbers from i on are within b: a loop without a way out, which the compiler takes several at a time.
+fn all_within(xs: &[f32], i: usize, b: f32) -> bool
+    requires { ⌜ i + 16 ≤ length (now xs) ⌝ }
+    ensures { λ r. ⌜ (r ≡ true → Passed b (now (xs .entry)) i → Passed b (now (xs .entry)) (i + 16)) ⌝ }
+{
+    let mut all = true;
+    let mut k: usize = 0;
+    while k < 16 {
+        if !within(xs[i + k], b) {
+            all = false;
+        }
+        k += 1;
+    }
+    all
+}
+
+// So many numbers from the start on are within b: sixteen at a time, as long as all are.
+fn passed(xs: &[f32], b: f32) -> usize
+    ensures { λ r. ⌜ (r ≤ length (now (xs .entry))) × Passed b (now (xs .entry)) r ⌝ }
+{
+    let mut i: usize = 0;
+    let mut left = xs.len() / 16;
+    let place = loop {
+        if left == 0 {
+            break i;
+        }
+        if !all_within(xs, i, b) {
+            break i;
+        }
+        i += 16;
+        left -= 1;
+    };
+    place
+}
+
+// The index of the first number that is not within b, a power of two, or the length.
+pub fn first_unfit(xs: &[f32], b: f32) -> usize
+    ensures { λ r. ⌜ ((k : ℕ) → b ≡ bound k → r ≡ firstUnfit k (now (xs .entry))) ⌝ }
+{
+    let mut i = passed(xs, b);
+    let place = loop {
+        if i >= xs.len() {
+            break xs.len();
+        }
+        if !within(xs[i], b) {
+            break i;
+        }
+        i += 1;
+    };
+    place
+}

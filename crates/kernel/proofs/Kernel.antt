@@ -1,0 +1,100 @@
+-- What an iteration reads, and the outputs of its kernel. Assumes nothing.
+use mathlib.Core.Path.{_≡_, refl, sym, ap, ap₂, _∙_}
+use mathlib.Core.Bool.{Bool, true, false}
+use mathlib.Core.List.{List, [], _∷_}
+use Prim.Native.Nat.{ℕ, zero, suc, _+_, _-_, _*_, _/_, _%_, _≤_, _<_}
+use native.Mathlib.Nat.{zero-add}
+use native.Mathlib.Omega.{arith}
+use native.Mathlib.Decide.{ℕ-discrete}
+use lib.Dec.{eqb}
+use borrow.Author.Tests.{ne-eqb}
+use lib.ListN.{getD, set, length}
+use lib.Seq.{getD-set-same, getD-set-other}
+use lib.Arith.{digits-lt}
+use lib.Ieee.{Float}
+use Rattle.schedule.specs.Stage.{tabulate, kernelTurn, twiddledIn, read, total, plain, output}
+use Rattle.schedule.proofs.Cells.{getD-tabulate, read-lt}
+use Rattle.turn.specs.Calls.{part}
+use Rattle.turn.specs.Turns.{turnOf}
+use Rattle.turn.specs.declared.Turn.{Turn}
+use Rattle.floats.specs.declared.complex.Complex.{Complex}
+use Rattle.floats.specs.Complexes.{blank, plus, times, turnedBy, cell}
+use Rattle.kernel.specs.Floats.{floats}
+use Rattle.kernel.specs.Parts.{numberOf, lentBy, untwiddled, kernelOf, readOf, outputOf}
+
+-- iteration i's cell q is there
+pub cell-room : (i q M r n : ℕ) → i < M → q < r → 2 * (M * r) ≤ n → 2 * (i + q * M) + 1 < n
+cell-room i q M r n li lq l = omega (arith, digits-lt lq li)
+
+-- one more element of a list as it should be
+pub set-more : {A : Type 0} (f : ℕ → A) (xs : List A) (n : ℕ) (v d : A) → n < length xs → v ≡ f n → ((k : ℕ) → k < n → getD xs k d ≡ f k)
+    → (k : ℕ) → k < n + 1 → getD (set xs n v) k d ≡ f k
+set-more f xs n v d l e before k lk = pick (ℕ-discrete k n)
+  where
+    pick : Dec (k ≡ n) → getD (set xs n v) k d ≡ f k
+    pick (yes s) = rw s (getD-set-same xs n v d l ∙ e)
+    pick (no s) = getD-set-other xs n k v d s ∙ before k (omega (arith, s))
+
+-- eight values in a row
+pub eight-listed : (f : ℕ → Complex) (a b c d e g h k : Complex) → a ≡ f 0 → b ≡ f 1 → c ≡ f 2 → d ≡ f 3 → e ≡ f 4 → g ≡ f 5 → h ≡ f 6 → k ≡ f 7
+    → a ∷ b ∷ c ∷ d ∷ e ∷ g ∷ h ∷ k ∷ [] ≡ tabulate 8 0 f
+unfolding tabulate
+eight-listed f a b c d e g h k e0 e1 e2 e3 e4 e5 e6 e7 = λ i. e0 i ∷ e1 i ∷ e2 i ∷ e3 i ∷ e4 i ∷ e5 i ∷ e6 i ∷ e7 i ∷ []
+
+-- ---- sums
+
+-- one more term, as a loop over q has it
+pub total-next : (r : ℕ) (x : ℕ → Complex) (p q : ℕ) (acc z sum : Complex) (t : Turn) → 0 < q → acc ≡ total untwiddled r x p (q - 1)
+    → t ≡ turnOf (part (p * q % r) r) → z ≡ turnedBy t (x q) → sum ≡ plus acc z → sum ≡ total untwiddled r x p q
+unfolding total floats kernelTurn
+total-next r x p zero acc z sum t l ea et ez es = absurd (omega arith)
+total-next r x p (suc q) acc z sum t l ea et ez es =
+    let e : suc q - 1 ≡ q = omega arith in
+    es ∙ ap₂ plus (rw e at ea) (ez ∙ ap (λ (u : Turn). turnedBy u (x (suc q))) et)
+
+-- a sum rests on the cells that it takes in, and on no twiddle
+pub total-same : (lent lent′ : ℕ → ℕ → ℕ → Complex) (r : ℕ) (x y : ℕ → Complex) (p n : ℕ) → ((q : ℕ) → q ≤ n → x q ≡ y q)
+    → total (floats lent) r x p n ≡ total (floats lent′) r y p n
+unfolding total floats
+total-same lent lent′ r x y p zero e = e 0 (omega arith)
+total-same lent lent′ r x y p (suc n) e =
+    ap₂ plus (total-same lent lent′ r x y p n (λ q l. e q (omega arith))) (ap (turnedBy (turnOf (kernelTurn p (suc n) r))) (e (suc n) (omega arith)))
+
+-- ---- reading
+
+module _ (first : Bool) (M : ℕ) (src : List Float) (lent : ℕ → ℕ → Complex) (i : ℕ) where
+  pub read-plain : (q : ℕ) (x : Complex) → 0 < q → first ≡ true → x ≡ cell src (i + q * M) → x ≡ readOf first M src lent i q
+  unfolding read twiddledIn
+  read-plain zero x l e ex = absurd (omega arith)
+  read-plain (suc q) x l e ex = rw e ex
+
+  pub read-times : (q : ℕ) (x t y : Complex) → 0 < q → first ≡ false → x ≡ cell src (i + q * M) → t ≡ lent i q → y ≡ times x t → y ≡ readOf first M src lent i q
+  unfolding read twiddledIn floats
+  read-times zero x t y l e ex et ey = absurd (omega arith)
+  read-times (suc q) x t y l e ex et ey = rw e (ey ∙ ap₂ times ex et)
+
+  -- the outputs of the cells read
+  pub outputs-of : (r : ℕ) (c o : List Complex) → 0 < r → r ≤ 8 → ((q : ℕ) → q < r → getD c q blank ≡ readOf first M src lent i q)
+      → o ≡ tabulate 8 0 (kernelOf r (λ q. getD c q blank)) → (p : ℕ) → p < r → getD o p blank ≡ outputOf first M r src lent i p
+  unfolding output plain
+  outputs-of r c o some few reads outs p l =
+      ap (λ (os : List Complex). getD os p blank) outs ∙ getD-tabulate 8 0 _ p blank (omega arith)
+      ∙ rw zero-add (total-same _ _ r _ _ p (r - 1) (λ q lq. reads q (omega arith)))
+
+-- all later stages do alike, and an output rests on the cells that are there
+module _ (lent : ℕ → ℕ → Complex) (j h r : ℕ) (c d : ℕ → Complex) (e : (n : ℕ) → n < h → c n ≡ d n) (i : ℕ) (li : i < h / r) where
+  read-same : (q : ℕ) → q < r → read (lentBy lent) (numberOf (eqb j 0)) (h / r) c i q ≡ read (lentBy lent) j (h / r) d i q
+  unfolding read twiddledIn floats
+  read-same = go j
+    where
+      go : (j q : ℕ) → q < r → read (lentBy lent) (numberOf (eqb j 0)) (h / r) c i q ≡ read (lentBy lent) j (h / r) d i q
+      go j zero lq = e i (omega (arith, read-lt h r i 0 li lq))
+      go zero (suc q) lq = e (i + suc q * (h / r)) (read-lt h r i (suc q) li lq)
+      go (suc j) (suc q) lq =
+          let later : suc j ≡ 0 → ⊥ = λ z. omega arith in
+          rw (ne-eqb (suc j) 0 later) (ap (λ (x : Complex). times x (lent i (suc q))) (e (i + suc q * (h / r)) (read-lt h r i (suc q) li lq)))
+
+  pub output-same : (p : ℕ) → 0 < r → output (plain (lentBy lent)) (lentBy lent) (numberOf (eqb j 0)) (h / r) r c i p
+      ≡ output (plain (lentBy lent)) (lentBy lent) j (h / r) r d i p
+  unfolding output plain
+  output-same p some = total-same _ _ r _ _ p (r - 1) (λ q l. read-same q (omega arith))

@@ -1,0 +1,7 @@
+-- The laws that the proofs share, by subject.
+pub mod Writes
+pub mod Kernel
+pub mod Places
+pub mod Arms
+pub mod Widths
+pub mod Works

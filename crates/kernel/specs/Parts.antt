@@ -1,0 +1,125 @@
+-- What the parts of a stage's code ask for and make: kernels, sixteen iterations in lanes, and the places where outputs go. Assumes nothing.
+use mathlib.Core.Path.{_≡_}
+use mathlib.Core.Bool.{Bool, true, false}
+use mathlib.Core.List.{List}
+use Prim.Native.Nat.{ℕ, _+_, _-_, _*_, _/_, _%_, _<_, _≤_}
+use lib.ListN.{length, getD}
+use lib.Ieee.{Float, nan}
+use Rattle.plan.specs.Counts.{twiddleCount}
+use Rattle.plan.specs.Lists.{isRadix}
+use Rattle.plan.specs.Record.{isPlanned}
+use Rattle.plan.specs.declared.Record.{Record}
+use Rattle.schedule.specs.Stage.{Arith, index, read, plain, output}
+use Rattle.floats.specs.declared.complex.Complex.{Complex}
+use Rattle.floats.specs.Complexes.{cx, blank, cell}
+use Rattle.kernel.specs.Floats.{floats}
+
+-- ---- kernels
+
+-- the first stage is stage 0; all later ones do alike, so stage 1 stands for them
+abbrev pub numberOf : (first : Bool) → ℕ
+numberOf true = 0
+numberOf false = 1
+
+-- the arithmetic of one stage, with `lent i q` for twiddle q of iteration i
+abbrev pub lentBy : (ℕ → ℕ → Complex) → Arith Complex
+lentBy lent = floats (λ j. lent)
+
+-- that of a kernel alone, which asks for no twiddles
+abbrev pub untwiddled : Arith Complex
+untwiddled = lentBy (λ i q. blank)
+
+-- output p of a kernel of radix r on the cells x
+abbrev pub kernelOf : (r : ℕ) → (ℕ → Complex) → ℕ → Complex
+kernelOf r x p = plain untwiddled r x p
+
+-- what iteration i of M reads as its cell q
+abbrev pub readOf : (first : Bool) → (M : ℕ) → (src : List Float) → (lent : ℕ → ℕ → Complex) → (i q : ℕ) → Complex
+readOf first M src lent = read (lentBy lent) (numberOf first) M (cell src)
+
+-- output p of iteration i of M
+abbrev pub outputOf : (first : Bool) → (M r : ℕ) → (src : List Float) → (lent : ℕ → ℕ → Complex) → (i p : ℕ) → Complex
+outputOf first M r src lent = output (plain (lentBy lent)) (lentBy lent) (numberOf first) M r (cell src)
+
+-- M iterations of radix r read a list of so many words
+pub record Sized (M r ns : ℕ) : Type 0 where
+  pub radix : isRadix r ≡ true
+  pub some : 2 ≤ r
+  pub few : r ≤ 8
+  pub source : 2 * (M * r) ≤ ns
+
+-- ---- twiddles
+
+-- M iterations of radix r are lent twiddles in nt words, sixteen iterations of which fit nl words
+pub record Lending (M r nt nl : ℕ) : Type 0 where
+  pub some : 2 ≤ r
+  pub few : r ≤ 8
+  pub small : M ≤ 4096
+  pub lent : 2 * (M * (r - 1)) ≤ nt
+  pub local : nl ≡ 224
+
+-- t has the twiddles of the n iterations from i on, one iteration after the other
+abbrev pub Fetched : (i n r : ℕ) → (lent : ℕ → ℕ → Complex) → List Float → Type 0
+Fetched i n r lent t = (j q : ℕ) → j < n → 0 < q → q < r → cell t (j * (r - 1) + (q - 1)) ≡ lent (i + j) q
+
+-- ---- cells written
+
+-- ys′ is ys with the cells g 0, .., g (n - 1) from cell `at` on
+pub record Wrote (g : ℕ → Complex) (at n : ℕ) (ys ys′ : List Float) : Type 0 where
+  pub size : length ys′ ≡ length ys
+  pub inside : (t : ℕ) → t < n → cell ys′ (at + t) ≡ g t
+  pub outside : (k : ℕ) → ((t : ℕ) → t < n → k ≡ at + t → ⊥) → cell ys′ k ≡ cell ys k
+
+-- the outputs v i p of the iterations below n are in their cells
+abbrev pub Done : (s r : ℕ) → (ℕ → ℕ → Complex) → List Float → ℕ → Type 0
+Done s r v ys n = (i p : ℕ) → i < n → p < r → cell ys (index s r i p) ≡ v i p
+
+-- ---- lanes: output p of lane j stands at 16 * p + j of two lists of 128
+
+abbrev pub lane : List Float → List Float → ℕ → Complex
+lane re im k = cx (getD re k nan) (getD im k nan)
+
+-- the lanes below n hold the outputs of the iterations from i on
+abbrev pub Held : (i n r : ℕ) → (ℕ → ℕ → Complex) → (re im : List Float) → Type 0
+Held i n r v re im = (j p : ℕ) → j < n → p < r → lane re im (16 * p + j) ≡ v (i + j) p
+
+-- lane j has taken the outputs g 0, .., g (n - 1), and the others are as they were
+pub record Saved (g : ℕ → Complex) (j n : ℕ) (re im re′ im′ : List Float) : Type 0 where
+  pub size-re : length re′ ≡ length re
+  pub size-im : length im′ ≡ length im
+  pub inside : (p : ℕ) → p < n → lane re′ im′ (16 * p + j) ≡ g p
+  pub outside : (k : ℕ) → ((p : ℕ) → p < n → k ≡ 16 * p + j → ⊥) → lane re′ im′ k ≡ lane re im k
+
+-- ---- where the outputs go
+
+-- n iterations from i on are of one block, which lies within nd words
+pub record InBlock (i n s r nd : ℕ) : Type 0 where
+  pub stride : 0 < s
+  pub some : 0 < r
+  pub few : r ≤ 8
+  pub one : i % s + n ≤ s
+  pub room : 2 * (i / s * (s * r) + s * r) ≤ nd
+
+-- M iterations are whole blocks of s, and have room in nd words
+pub record Blocks (M s r nd : ℕ) : Type 0 where
+  pub stride : 0 < s
+  pub some : 0 < r
+  pub few : r ≤ 8
+  pub whole : M ≡ M / s * s
+  pub room : 2 * (M * r) ≤ nd
+
+-- so many iterations from i on are in lanes, to be stored
+pub record Stored (i M len s r nd : ℕ) : Type 0 where
+  pub blocks : Blocks M s r nd
+  pub within : i + len ≤ M
+  pub lanes : len ≤ 16
+
+-- what the work of a stage asks for: an accepted plan with that stage, a width, words for h cells to read and to write, and its own twiddles
+pub record Workable (p : Record) (j W ns nt nd : ℕ) : Type 0 where
+  pub planned : isPlanned p ≡ true
+  pub known : j < p .count
+  pub width : 0 < W
+  pub narrow : W ≤ 4
+  pub source : ns ≡ 2 * p .half
+  pub target : nd ≡ 2 * p .half
+  pub lent : nt ≡ 2 * twiddleCount (p .half) (p .radices) j

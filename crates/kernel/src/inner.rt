@@ -1,0 +1,6 @@
+// What other crates call under a proof, and the parts of it.
+pub mod first;
+pub mod kernel;
+pub mod lanes;
+pub mod lent;
+pub mod stage;

@@ -1,0 +1,121 @@
+// Sixteen iterations of a later stage at a time, in lanes: output p of lane j stands at 16 * p + j of two arrays of 128.
+use crate::inner::kernel::cells;
+use crate::inner::kernel::outputs;
+use floats::complex::Complex;
+use floats::inner::cells::put;
+ghost use mathlib.Core.Path.{_≡_};
+ghost use mathlib.Core.Bool.{false};
+ghost use Prim.Native.Nat.{ℕ, _+_, _-_, _*_, _<_, _≤_};
+ghost use lib.ListN.{length, getD};
+ghost use Rattle.floats.specs.Complexes.{blank};
+ghost use Rattle.kernel.specs.Parts.{outputOf, Sized, Fetched, Wrote, Done, lane, Held, Saved, InBlock, Stored};
+
+// The first r outputs to lane j.
+fn save(o: [Complex; 8], re: &mut [f32], im: &mut [f32], j: usize, r: usize)
+    requires { ⌜ (r ≤ 8) × (j < 16) × (length (now re) ≡ 128) × (length (now im) ≡ 128) ⌝ }
+    ensures { λ _. ⌜ Saved (λ p. getD o p blank) j r (now (re .entry)) (now (im .entry)) (now (re .exit)) (now (im .exit)) ⌝ }
+{
+    let mut p = 0;
+    while p < r {
+        let z = o[p];
+        let k = 16 * p + j;
+        re[k] = z.re;
+        im[k] = z.im;
+        p += 1;
+    }
+}
+
+// Iterations i to i + len, to the lanes, each radix written out.
+pub fn lanes(
+    src: &[f32],
+    tw: &[f32],
+    re: &mut [f32],
+    im: &mut [f32],
+    i: usize,
+    m: usize,
+    len: usize,
+    r: usize,
+)
+    requires { ⌜ Sized m r (length (now src)) × (i + len ≤ m) × (len ≤ 16) × (2 * (16 * (r - 1)) ≤ length (now tw)) × (length (now re) ≡ 128) × (length (now im) ≡ 128) ⌝ }
+    ensures { λ _. ⌜ ((lent : ℕ → ℕ → Complex) → Fetched i len r lent (now (tw .entry)) → Held i len r (outputOf false m r (now (src .entry)) lent) (now (re .exit)) (now (im .exit))) ⌝ }
+{
+    let mut j = 0;
+    while j < len {
+        let k = i + j;
+        match r {
+            2 => save(outputs(cells(src, tw, k, j, m, 2, false), 2), re, im, j, 2),
+            3 => save(outputs(cells(src, tw, k, j, m, 3, false), 3), re, im, j, 3),
+            4 => save(outputs(cells(src, tw, k, j, m, 4, false), 4), re, im, j, 4),
+            5 => save(outputs(cells(src, tw, k, j, m, 5, false), 5), re, im, j, 5),
+            7 => save(outputs(cells(src, tw, k, j, m, 7, false), 7), re, im, j, 7),
+            _ => save(outputs(cells(src, tw, k, j, m, 8, false), 8), re, im, j, 8),
+        }
+        j += 1;
+    }
+}
+
+// Cell k of the lanes.
+fn held(re: &[f32], im: &[f32], k: usize) -> Complex
+    requires { ⌜ (k < 128) × (length (now re) ≡ 128) × (length (now im) ≡ 128) ⌝ }
+    ensures { λ z. ⌜ z ≡ lane (now (re .entry)) (now (im .entry)) k ⌝ }
+{
+    Complex {
+        re: re[k],
+        im: im[k],
+    }
+}
+
+// n cells of the lanes from k on, to the cells from `at` on.
+fn row(re: &[f32], im: &[f32], k: usize, dst: &mut [f32], at: usize, n: usize)
+    requires { ⌜ (k + n ≤ 128) × (length (now re) ≡ 128) × (length (now im) ≡ 128) × (2 * (at + n) ≤ length (now dst)) ⌝ }
+    ensures { λ _. ⌜ Wrote (λ t. lane (now (re .entry)) (now (im .entry)) (k + t)) at n (now (dst .entry)) (now (dst .exit)) ⌝ }
+{
+    let mut t = 0;
+    while t < n {
+        let z = held(re, im, k + t);
+        put(dst, at + t, z);
+        t += 1;
+    }
+}
+
+// The outputs of the n iterations from i on, which are of one block, from the lanes from j on to their cells.
+fn rows(re: &[f32], im: &[f32], j: usize, dst: &mut [f32], i: usize, n: usize, s: usize, r: usize)
+    requires { ⌜ InBlock i n s r (length (now dst)) × (j + n ≤ 16) × (length (now re) ≡ 128) × (length (now im) ≡ 128) ⌝ }
+    ensures { λ _. ⌜ ((v : ℕ → ℕ → Complex) → ((t p : ℕ) → t < n → p < r → lane (now (re .entry)) (now (im .entry)) (16 * p + j + t) ≡ v (i + t) p) → Done s r v (now (dst .entry)) i → Done s r v (now (dst .exit)) (i + n)) ⌝ }
+{
+    let at = i / s * (s * r) + i % s;
+    let mut p = 0;
+    while p < r {
+        row(re, im, 16 * p + j, dst, at + p * s, n);
+        p += 1;
+    }
+}
+
+// The smaller of two.
+pub fn least(a: usize, b: usize) -> usize
+    ensures { λ r. ⌜ (r ≤ a) × (r ≤ b) × (0 < a → 0 < b → 0 < r) ⌝ }
+{
+    if a < b { a } else { b }
+}
+
+// The outputs of the len iterations from i on, from the lanes to their cells, a block at a time.
+pub fn store(
+    re: &[f32],
+    im: &[f32],
+    dst: &mut [f32],
+    i: usize,
+    m: usize,
+    len: usize,
+    s: usize,
+    r: usize,
+)
+    requires { ⌜ Stored i m len s r (length (now dst)) × (length (now re) ≡ 128) × (length (now im) ≡ 128) ⌝ }
+    ensures { λ _. ⌜ ((v : ℕ → ℕ → Complex) → Held i len r v (now (re .entry)) (now (im .entry)) → Done s r v (now (dst .entry)) i → Done s r v (now (dst .exit)) (i + len)) ⌝ }
+{
+    let mut j = 0;
+    while j < len {
+        let n = least(s - (i + j) % s, len - j);
+        rows(re, im, j, dst, i + j, n, s, r);
+        j += n;
+    }
+}

@@ -1,0 +1,51 @@
+// The lent twiddles of sixteen iterations, fetched from their places at any width, one iteration after the other.
+use floats::inner::cells::get;
+use floats::inner::cells::put;
+ghost use mathlib.Core.Path.{_≡_};
+ghost use Prim.Native.Nat.{ℕ, _+_, _-_, _*_, _<_, _≤_};
+ghost use lib.ListN.{length};
+ghost use Rattle.floats.specs.Complexes.{cell};
+ghost use Rattle.kernel.specs.Floats.{lentAt};
+ghost use Rattle.kernel.specs.Parts.{Lending, Fetched, Wrote};
+
+// n cells of tw from `from` on, every step-th, to the cells of t from `at` on.
+fn gather(tw: &[f32], t: &mut [f32], at: usize, from: usize, n: usize, step: usize)
+    requires { ⌜ (2 * (at + n) ≤ length (now t)) × ((u : ℕ) → u < n → 2 * (from + u * step) + 1 < length (now tw)) ⌝ }
+    ensures { λ _. ⌜ Wrote (λ u. cell (now (tw .entry)) (from + u * step)) at n (now (t .entry)) (now (t .exit)) ⌝ }
+{
+    let mut u = 0;
+    while u < n {
+        let z = get(tw, from + u * step);
+        put(t, at + u, z);
+        u += 1;
+    }
+}
+
+// The twiddles of iteration i, to those of iteration j of t.
+fn fetch_one(tw: &[f32], t: &mut [f32], j: usize, i: usize, m: usize, r: usize, w: usize)
+    requires { ⌜ Lending m r (length (now tw)) (length (now t)) × (0 < w) × (w ≤ 4) × (i < m) × (j < 16) ⌝ }
+    ensures { λ _. ⌜ Wrote (λ u. lentAt m r w (now (tw .entry)) i (u + 1)) (j * (r - 1)) (r - 1) (now (t .entry)) (now (t .exit)) ⌝ }
+{
+    let d = r - 1;
+    if i < m / w * w {
+        gather(tw, t, j * d, i / w * (w * d) + i % w, d, w);
+    } else {
+        gather(tw, t, j * d, i * d, d, 1);
+    }
+}
+
+// The twiddles of the len iterations from i on, which at width 1 stand as they are wanted.
+pub fn fetch(tw: &[f32], t: &mut [f32], i: usize, m: usize, len: usize, r: usize, w: usize)
+    requires { ⌜ Lending m r (length (now tw)) (length (now t)) × (0 < w) × (w ≤ 4) × (i + len ≤ m) × (len ≤ 16) ⌝ }
+    ensures { λ _. ⌜ Fetched i len r (lentAt m r w (now (tw .entry))) (now (t .exit)) ⌝ }
+{
+    if w == 1 {
+        gather(tw, t, 0, i * (r - 1), len * (r - 1), 1);
+    } else {
+        let mut j = 0;
+        while j < len {
+            fetch_one(tw, t, j, i + j, m, r, w);
+            j += 1;
+        }
+    }
+}
