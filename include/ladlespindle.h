@@ -1,4 +1,4 @@
-/* ladlespindle.h: planning of spectra, their twiddles, and their stages in remainders, for a C host.
+/* ladlespindle.h: planning of spectra, their twiddles, both transforms and the power of bins, and stages in remainders, for a C host.
  *
  * Every function takes whatever it is lent, ends, and allocates nothing. A list is bytes, one radix each: 2, 3, 4, 5,
  * 7 or 8. Its product is the length n, even and at most 8,192.
@@ -87,6 +87,13 @@ typedef struct {
     uint32_t buffer;
 } ladlespindle_ran;
 
+/* The same of a sum of power, with the sum, +0 on a refusal. */
+typedef struct {
+    uint32_t number;
+    size_t place;
+    float power;
+} ladlespindle_summed;
+
 /* The plan of a list.
  * On a refusal every number of it is 0. */
 ladlespindle_record ladlespindle_plan(const uint8_t *list, size_t length);
@@ -164,6 +171,29 @@ ladlespindle_answer ladlespindle_fill_inverse(ladlespindle_record plan, size_t w
  * output; 3: twiddles), 9 (a number of the input above 2^48 in magnitude or not finite) and 10 (one of the twiddles above 1). */
 ladlespindle_answer ladlespindle_stage(ladlespindle_record plan, size_t number, size_t width, const float *input, size_t input_length,
                                        float *output, size_t output_length, const float *twiddles, size_t twiddles_length);
+
+/* Both transforms, unnormalised, so that one after the other gives n times the samples. A spectrum is the bins 0 to half, two
+ * numbers each. Scratch has at least 6n numbers: the first 2n are left as the steps leave them, the others are not written. The
+ * twiddles are lent, packed for a width of 1, 2 or 4: those that ladlespindle_fill_forward or ladlespindle_fill_inverse fills, or,
+ * where the length does not divide 6,720, the host's own. Refused, in this order, with 5, 6, 8 (places 0 to 4), 9 (a sample above
+ * 2^32 in magnitude, a number of a bin above 2^48, or not finite) and 10 (place: the index in the stage twiddles followed by
+ * the end twiddles).
+ *
+ * Forward: n samples make a spectrum of 2 * (half + 1) numbers, no more and no fewer. */
+ladlespindle_answer ladlespindle_forward(ladlespindle_record plan, size_t width, const float *input, size_t input_length, float *output,
+                                         size_t output_length, float *scratch, size_t scratch_length, const float *stage,
+                                         size_t stage_length, const float *end, size_t end_length);
+
+/* Inverse: a spectrum makes n samples; the output has at least n numbers and is +0 after them. In bins 0 and half the imaginary
+ * part is subtracted from the real part. */
+ladlespindle_answer ladlespindle_inverse(ladlespindle_record plan, size_t width, const float *input, size_t input_length, float *output,
+                                         size_t output_length, float *scratch, size_t scratch_length, const float *stage,
+                                         size_t stage_length, const float *end, size_t end_length);
+
+/* The power of the bins lo to hi of a spectrum, both included: re * re + im * im of each, added from +0 in ascending order.
+ * Refused, in this order, with 8 (place 0: the length is odd, below 4 or above 8,194), 14 (lo above hi, or hi no bin) and 9 (a
+ * number of the spectrum, asked for or not, above 2^48 in magnitude or not finite). */
+ladlespindle_summed ladlespindle_power(const float *spectrum, size_t length, size_t lo, size_t hi);
 
 /* In remainders modulo m, from 2 to 4,294,967,295, a base w below m whose power `half` leaves 1 stands for one part of a
  * circle of `half` parts. Both functions lend two buffers of `half` numbers, below m where they are read. They refuse, in

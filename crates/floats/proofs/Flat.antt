@@ -1,13 +1,15 @@
--- A flat list and its cells.
+-- A flat list and its cells, and one cell written.
 -- Assumes nothing.
-use mathlib.Core.Path.{_≡_, refl, ap}
+use mathlib.Core.Path.{_≡_, refl, ap, ap₂, _∙_}
+use mathlib.Core.Logic.{_≢_}
 use mathlib.Core.List.{List, [], _∷_}
 use Prim.Native.Nat.{ℕ, zero, suc, _+_, _*_, _<_}
 use native.Mathlib.Omega.{arith}
-use lib.ListN.{length, getD}
-use lib.Ieee.{Float}
+use lib.ListN.{length, getD, set, length-set}
+use lib.Seq.{getD-set-same, getD-set-other}
+use lib.Ieee.{Float, nan}
 use Rattle.floats.specs.declared.complex.Complex.{Complex}
-use Rattle.floats.specs.Complexes.{blank, cell, paired, flat}
+use Rattle.floats.specs.Complexes.{cx, blank, cell, putCell, paired, flat}
 
 pub get-paired : (xs : List Float) (n : ℕ) → 2 * n + 1 < length xs → getD (paired xs) n blank ≡ cell xs n
 unfolding paired
@@ -42,3 +44,22 @@ pub paired-flat : (zs : List Complex) → paired (flat zs) ≡ zs
 unfolding paired flat
 paired-flat [] = refl
 paired-flat (z ∷ zs) = ap (λ (l : List Complex). z ∷ l) (paired-flat zs)
+
+-- ---- one cell written
+
+module _ (xs : List Float) (k : ℕ) (z : Complex) where
+  pub length-put : length (putCell xs k z) ≡ length xs
+  length-put = simp length-set
+
+  pub get-put : 2 * k + 1 < length xs → cell (putCell xs k z) k ≡ z
+  get-put l =
+      ap₂ cx
+      (getD-set-other (set xs (2 * k) (z .re)) (2 * k + 1) (2 * k) (z .im) nan (λ e. omega arith)
+      ∙ getD-set-same xs (2 * k) (z .re) nan (omega arith))
+      (getD-set-same (set xs (2 * k) (z .re)) (2 * k + 1) (z .im) nan (simp length-set l))
+
+  pub get-other : (n : ℕ) → n ≢ k → cell (putCell xs k z) n ≡ cell xs n
+  get-other n ne = ap₂ cx (kept (2 * n) (λ e. omega (arith, ne)) (λ e. omega arith)) (kept (2 * n + 1) (λ e. omega arith) (λ e. omega (arith, ne)))
+    where
+      kept : (w : ℕ) → w ≢ 2 * k → w ≢ 2 * k + 1 → getD (putCell xs k z) w nan ≡ getD xs w nan
+      kept w a b = getD-set-other (set xs (2 * k) (z .re)) (2 * k + 1) w (z .im) nan b ∙ getD-set-other xs (2 * k) w (z .re) nan a

@@ -12,24 +12,8 @@ use lib.Seq.{getD-set-same, getD-set-other}
 use lib.Ieee.{Float, nan}
 use Rattle.floats.specs.declared.complex.Complex.{Complex}
 use Rattle.floats.specs.Complexes.{cx, cell, putCell}
+use Rattle.floats.proofs.Flat.{length-put, get-put, get-other}
 use Rattle.kernel.specs.Parts.{lane, Wrote, Saved}
-
-module _ (xs : List Float) (k : ℕ) (z : Complex) where
-  pub length-put : length (putCell xs k z) ≡ length xs
-  length-put = simp length-set
-
-  pub get-put : 2 * k + 1 < length xs → cell (putCell xs k z) k ≡ z
-  get-put l =
-      ap₂ cx
-      (getD-set-other (set xs (2 * k) (z .re)) (2 * k + 1) (2 * k) (z .im) nan (λ e. omega arith)
-      ∙ getD-set-same xs (2 * k) (z .re) nan (omega arith))
-      (getD-set-same (set xs (2 * k) (z .re)) (2 * k + 1) (z .im) nan (simp length-set l))
-
-  pub get-other : (n : ℕ) → n ≢ k → cell (putCell xs k z) n ≡ cell xs n
-  get-other n ne = ap₂ cx (kept (2 * n) (λ e. omega (arith, ne)) (λ e. omega arith)) (kept (2 * n + 1) (λ e. omega arith) (λ e. omega (arith, ne)))
-    where
-      kept : (w : ℕ) → w ≢ 2 * k → w ≢ 2 * k + 1 → getD (putCell xs k z) w nan ≡ getD xs w nan
-      kept w a b = getD-set-other (set xs (2 * k) (z .re)) (2 * k + 1) w (z .im) nan b ∙ getD-set-other xs (2 * k) w (z .re) nan a
 
 module _ (g : ℕ → Complex) (at : ℕ) (ys : List Float) where
   pub wrote-none : Wrote g at 0 ys ys

@@ -3,14 +3,16 @@ use Prim.Native.Nat.{ℕ, zero, suc, _≤_}
 use native.Mathlib.Omega.{arith}
 use mathlib.Core.Path.{_≡_, refl, sym, _∙_}
 use mathlib.Core.List.{List}
+use lib.Ieee.{Float}
 use Rattle.refusal.specs.declared.Verdict.{Verdict}
 use Rattle.plan.specs.declared.Record.{Record}
 use Rattle.schedule.specs.Buffers.{Two}
 use Rattle.ladlespindle.specs.declared.Answer.{Answer}
+use Rattle.ladlespindle.specs.declared.Power.{Power}
 use Rattle.ladlespindle.specs.declared.Ran.{Ran}
 use Rattle.ladlespindle.specs.declared.Scaling.{Scaling}
 use Rattle.ladlespindle.specs.declared.TurnWords.{TurnWords}
-use Rattle.ladlespindle.specs.Calls.{Gives, GivesTurn, GivesRemainderRun}
+use Rattle.ladlespindle.specs.Calls.{Gives, GivesTurn, GivesPower, GivesRemainderRun}
 use Rattle.ladlespindle.specs.Exports.{GivesPlan, GivesNumber, GivesPlace, GivesLength, GivesHalf, GivesStages, GivesMerges, GivesRadix, GivesLetter, GivesStageTwiddles, GivesEndTwiddles, GivesResult, GivesAcceptance, GivesScaling}
 
 -- two answers that equal the same value
@@ -68,12 +70,16 @@ pub one-acceptance : (plan : Record) (a b : ℕ) → GivesAcceptance plan a → 
 one-acceptance plan a b p q =
     same-bit a b (p .bit) (q .bit) (λ (e : a ≡ 1). q .one .1 (p .one .0 e)) (λ (e : b ≡ 1). p .one .1 (q .one .0 e))
 
--- `ladlespindle_fill_forward`, `ladlespindle_fill_inverse`, `ladlespindle_stage`, `ladlespindle_remainder_stage`
+-- `ladlespindle_fill_forward`, `ladlespindle_fill_inverse`, `ladlespindle_stage`, `ladlespindle_forward`, `ladlespindle_inverse`,
+-- `ladlespindle_remainder_stage`
 pub one-given : {A : Type 0} (v : Verdict) (made lent : A) (a b : Answer) (x y : A) → Gives v made lent a x → Gives v made lent b y → (a ≡ b) × (x ≡ y)
 one-given v made lent a b x y p q = (same (p .answer) (q .answer), same (p .cells) (q .cells))
 
 pub one-turn : (t L : ℕ) (a b : TurnWords) → GivesTurn t L a → GivesTurn t L b → a ≡ b
 one-turn t L a b p q = same (p .answer) (q .answer)
+
+pub one-power : (spectrum : List Float) (lo hi : ℕ) (a b : Power) → GivesPower spectrum lo hi a → GivesPower spectrum lo hi b → a ≡ b
+one-power spectrum lo hi a b p q = same (p .answer) (q .answer)
 
 pub one-remainder-run : (p : Record) (m w : ℕ) (before : Two ℕ) (a b : Ran) (ys zs : Two ℕ)
     → GivesRemainderRun p m w before a ys → GivesRemainderRun p m w before b zs → (a ≡ b) × (ys ≡ zs)

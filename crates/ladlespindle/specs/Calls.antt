@@ -1,5 +1,5 @@
 -- What the exported functions that are no planning answer, and what they leave in the buffers they are lent. Assumes nothing.
-use Prim.Native.Nat.{ℕ}
+use Prim.Native.Nat.{ℕ, _+_, _-_}
 use mathlib.Core.Path.{_≡_}
 use mathlib.Core.List.{List}
 use lib.Ieee.{Float}
@@ -16,14 +16,26 @@ use Rattle.twiddle.specs.declared.inner.ends.Direction.{Direction}
 use Rattle.twiddle.specs.declared.inner.ends.Direction.the-variants.{Forward, Inverse}
 use Rattle.kernel.specs.Floats.{stageOf as stageWords}
 use Rattle.stage.specs.Calls as Floats
+use Rattle.spectrum.specs.Calls.{forwardVerdict, inverseVerdict}
+use Rattle.spectrum.specs.Power.{powerFrom, powerVerdict, summed}
+use Rattle.spectrum.specs.Transforms.{forwardOf, inverseOf}
+use Rattle.spectrum.specs.declared.Summed.{Summed}
 use Rattle.remainder.specs.Calls.{stageVerdict, stageOf, runVerdict, runOf}
 use Rattle.ladlespindle.specs.declared.Answer.{Answer}
+use Rattle.ladlespindle.specs.declared.Power.{Power}
 use Rattle.ladlespindle.specs.declared.Ran.{Ran}
 use Rattle.ladlespindle.specs.declared.TurnWords.{TurnWords}
 
 -- a verdict as two numbers
 abbrev pub answered : Verdict → Answer
 answered v = record { number = numberIn v; place = placeIn v }
+
+-- a sum with its verdict as two numbers
+abbrev pub powerAs : (number place : ℕ) → Float → Power
+powerAs n k x = record { number = n; place = k; power = x }
+
+abbrev pub powered : Summed → Power
+powered s = powerAs (numberIn (s .verdict)) (placeIn (s .verdict)) (s .power)
 
 -- what a call with verdict v promises of its answer r, and of what stands afterwards in what was lent
 pub record Gives {A : Type 0} (v : Verdict) (made lent : A) (r : Answer) (after : A) : Type 0 where
@@ -53,6 +65,21 @@ GivesInverse p W before r after = Gives (fillVerdict p W (length (before .0)) (l
 abbrev pub GivesStage : Record → (j W : ℕ) → (input output twiddles : List Float) → Answer → List Float → Type 0
 GivesStage p j W input output twiddles r after =
     Gives (Floats.stageVerdict p j W input (length output) twiddles) (stageWords p j W twiddles input) output r after
+
+-- ---- spectra
+
+-- what `ladlespindle_forward` and `ladlespindle_inverse` promise of the answer r and of what is left in output and scratch
+abbrev pub GivesSpectrum : Record → (W : ℕ) → (stage end input : List Float) → Slices → Answer → Slices → Type 0
+GivesSpectrum p W stage end input before r after =
+    Gives (forwardVerdict p W input (length (before .0)) (length (before .1)) stage end) (forwardOf p W stage end input (before .1)) before r after
+
+abbrev pub GivesSamples : Record → (W : ℕ) → (stage end input : List Float) → Slices → Answer → Slices → Type 0
+GivesSamples p W stage end input before r after =
+    Gives (inverseVerdict p W input (length (before .0)) (length (before .1)) stage end) (inverseOf p W stage end input (before .1) (length (before .0))) before r after
+
+-- what `ladlespindle_power` promises of its answer: the refusal as two numbers, and the sum
+pub record GivesPower (spectrum : List Float) (lo hi : ℕ) (r : Power) : Type 0 where
+  pub answer : r ≡ powered (summed (powerVerdict spectrum lo hi) (powerFrom spectrum lo (hi + 1 - lo)))
 
 -- ---- remainders
 

@@ -1,5 +1,6 @@
 // The functions that a host written in C links: planning, its refusals, counts and scaling, on lists of radices; a single turn; the
-// filling of twiddles; a stage in floats; and the stages in remainders, on a plan and buffers of whole numbers.
+// filling of twiddles; a stage in floats; both transforms and the power of bins; and the stages in remainders, on a plan and buffers of
+// whole numbers.
 use plan::Radices;
 use plan::Record;
 use plan::inner::stages::result_in;
@@ -10,7 +11,7 @@ ghost use lib.ListN.{getD};
 ghost use Rattle.ladlespindle.specs.Exports.{GivesPlan, GivesNumber, GivesPlace, GivesLength, GivesHalf, GivesStages, GivesMerges, GivesRadix, GivesLetter, GivesStageTwiddles, GivesEndTwiddles, GivesResult, GivesAcceptance, GivesScaling};
 ghost use Rattle.refusal.specs.Refusal.{left};
 ghost use Rattle.plan.specs.Counts.{resultIn, bufferNumber};
-ghost use Rattle.ladlespindle.specs.Calls.{GivesTurn, GivesForward, GivesInverse, GivesStage, GivesRemainderStage, GivesRemainderRun};
+ghost use Rattle.ladlespindle.specs.Calls.{GivesTurn, GivesForward, GivesInverse, GivesStage, GivesSpectrum, GivesSamples, GivesPower, GivesRemainderStage, GivesRemainderRun};
 
 // What scaling answers, with the refusal as two numbers.
 #[repr(C)]
@@ -38,6 +39,14 @@ pub struct TurnWords {
     pub place: usize,
     pub re: f32,
     pub im: f32,
+}
+
+// The same of a sum of power, with the sum, +0 on a refusal.
+#[repr(C)]
+pub struct Power {
+    pub number: u32,
+    pub place: usize,
+    pub power: f32,
 }
 
 // The same of a run, with the buffer that holds the result: 0 for Data and on a refusal, 1 for Scratchpad.
@@ -256,6 +265,60 @@ pub extern "C" fn ladlespindle_stage(
     Answer {
         number: verdict.number(),
         place: verdict.place(),
+    }
+}
+
+// The spectrum of n samples.
+#[no_mangle]
+pub extern "C" fn ladlespindle_forward(
+    plan: Record,
+    width: usize,
+    input: &[f32],
+    output: &mut [f32],
+    scratch: &mut [f32],
+    stage: &[f32],
+    end: &[f32],
+) -> Answer
+    ensures { λ r. ⌜ GivesSpectrum plan width (now (stage .entry)) (now (end .entry)) (now (input .entry)) (now (output .entry), now (scratch .entry)) r (now (output .exit), now (scratch .exit)) ⌝ }
+{
+    let verdict = spectrum::forward(plan, width, input, output, scratch, stage, end);
+    Answer {
+        number: verdict.number(),
+        place: verdict.place(),
+    }
+}
+
+// The n samples of a spectrum, times n.
+#[no_mangle]
+pub extern "C" fn ladlespindle_inverse(
+    plan: Record,
+    width: usize,
+    input: &[f32],
+    output: &mut [f32],
+    scratch: &mut [f32],
+    stage: &[f32],
+    end: &[f32],
+) -> Answer
+    ensures { λ r. ⌜ GivesSamples plan width (now (stage .entry)) (now (end .entry)) (now (input .entry)) (now (output .entry), now (scratch .entry)) r (now (output .exit), now (scratch .exit)) ⌝ }
+{
+    let verdict = spectrum::inverse(plan, width, input, output, scratch, stage, end);
+    Answer {
+        number: verdict.number(),
+        place: verdict.place(),
+    }
+}
+
+// The power of bins lo to hi of a spectrum.
+#[no_mangle]
+pub extern "C" fn ladlespindle_power(spectrum: &[f32], lo: usize, hi: usize) -> Power
+    ensures { λ r. ⌜ GivesPower (now (spectrum .entry)) lo hi r ⌝ }
+{
+    let summed = spectrum::power(spectrum, lo, hi);
+    let verdict = summed.verdict;
+    Power {
+        number: verdict.number(),
+        place: verdict.place(),
+        power: summed.power,
     }
 }
 

@@ -89,6 +89,33 @@ module _ {A : Type 0} (f : ℕ → List A → List A) (b : Two A) where
   unfolding driven
   driven-kept count e d s g u = simp (ne-eqb count 1 e) (g, u)
 
+  -- no stage leaves both as they are
+  pub driven-none : driven f 0 b ≡ b
+  unfolding driven alternated
+  driven-none = refl
+
+  pub driven-long : (n : ℕ) → ((k : ℕ) (xs : List A) → length (f k xs) ≡ n) → length (b .0) ≡ n → length (b .1) ≡ n
+      → (count : ℕ) → (length (driven f count b .0) ≡ n) × (length (driven f count b .1) ≡ n)
+  unfolding driven
+  driven-long n made l m count = go (eqb count 1) (both-long n made l m count)
+    where
+      go : (t : Bool) → (length (alternated f count b .0) ≡ n) × (length (alternated f count b .1) ≡ n)
+          → (length (copiedBy t (alternated f count b) .0) ≡ n) × (length (copiedBy t (alternated f count b) .1) ≡ n)
+      go true g = (g .1, g .1)
+      go false g = g
+
+-- the first stage writes over what the Scratchpad held
+module _ {A : Type 0} (f : ℕ → List A → List A) (xs ys ys′ : List A) where
+  alternated-pad : (k : ℕ) → alternated f (suc k) (xs, ys) ≡ alternated f (suc k) (xs, ys′)
+  unfolding alternated
+  alternated-pad zero = refl
+  alternated-pad (suc k) = ap (across (eqb (suc k % 2) 0) (f (suc k))) (alternated-pad k)
+
+  pub driven-pad : (count : ℕ) → 0 < count → driven f count (xs, ys) ≡ driven f count (xs, ys′)
+  unfolding driven
+  driven-pad zero l = absurd (omega arith)
+  driven-pad (suc k) l = ap (copiedBy (eqb (suc k) 1)) (alternated-pad k)
+
 -- ---- copying, cell by cell
 
 -- the first n cells are copied

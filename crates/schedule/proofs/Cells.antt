@@ -1,10 +1,10 @@
 -- Where a stage reads and writes, for any arithmetic.
 -- Assumes nothing.
-use mathlib.Core.Path.{_≡_, refl, sym, ap, _∙_}
+use mathlib.Core.Path.{_≡_, refl, sym, ap, ap₂, _∙_}
 use Prim.Native.Nat.{ℕ, zero, suc, _+_, _*_, _/_, _%_, _<_}
 use native.Mathlib.Nat.{zero-add, add-zero, add-suc, suc-add, zero-mul, mul-comm, zero-lt-suc, le-of-suc-le-suc, not-suc-le-zero, mod-lt, div-add-mod', div-lt-iff-lt-mul, mul-add-mod-self-right, mod-mod-of-dvd, dvd-mul-right, mul-pos, mul-div-le, div-eq-of-eq-mul-left}
 use native.Mathlib.Omega.{arith}
-use mathlib.Core.List.{List}
+use mathlib.Core.List.{List, _∷_}
 use lib.ListN.{length, getD}
 use lib.Arith.{digits-div, digits-mod, digits-lt}
 use lib.Seq.{ext-getD}
@@ -14,6 +14,14 @@ pub length-tabulate {ℓ} : {A : Type ℓ} (n i : ℕ) (f : ℕ → A) → lengt
 unfolding tabulate
 length-tabulate zero i f = refl
 length-tabulate (suc n) i f = ap suc (length-tabulate n (suc i) f)
+
+-- the same at each place, the same list
+pub tabulate-same : {A : Type 0} (k n : ℕ) (f g : ℕ → A) → ((i : ℕ) → i < k → f (n + i) ≡ g (n + i)) → tabulate k n f ≡ tabulate k n g
+unfolding tabulate
+tabulate-same zero n f g e = refl
+tabulate-same (suc k) n f g e =
+    let here : n + 0 ≡ n = omega arith in
+    ap₂ (λ x xs. x ∷ xs) (rw here at (e 0 (omega arith))) (tabulate-same k (suc n) f g (λ i l. rw (suc-add, ← add-suc) (e (suc i) (omega arith))))
 
 pub getD-tabulate {ℓ} : {A : Type ℓ} (n i : ℕ) (f : ℕ → A) (j : ℕ) (d : A) → j < n → getD (tabulate n i f) j d ≡ f (i + j)
 unfolding tabulate

@@ -1,10 +1,10 @@
 -- A stage and a run rest on the twiddles that they read, and on no others. Assumes nothing.
 use Prim.Native.Nat.{ℕ, zero, suc, _+_, _-_, _*_, _/_, _%_, _≤_, _<_}
-use native.Mathlib.Nat.{le-of-lt, zero-add, add-suc, suc-add}
+use native.Mathlib.Nat.{le-of-lt}
 use native.Mathlib.Omega.{arith}
 use mathlib.Core.Path.{_≡_, refl, sym, ap, ap₂, _∙_}
 use mathlib.Core.Bool.{Bool, true, false}
-use mathlib.Core.List.{List, _∷_}
+use mathlib.Core.List.{List}
 use lib.Dec.{eqb}
 use lib.Ieee.{Float, nan}
 use lib.ListN.{length, getD, drop}
@@ -17,9 +17,9 @@ use Rattle.plan.specs.declared.Record.{Record}
 use Rattle.plan.proofs.Counts.{count-later}
 use Rattle.schedule.specs.Buffers.{Two, across, alternated, driven, heldIn}
 use Rattle.schedule.specs.Plans.{inUse}
-use Rattle.schedule.specs.Stage.{tabulate, iteration, place as placeOf, twiddledIn, read, plain, output, stageBy, stage, run}
+use Rattle.schedule.specs.Stage.{iteration, place as placeOf, twiddledIn, read, plain, output, stageBy, stage, run}
 use Rattle.schedule.proofs.Buffers.{sourceBy, source-run, held}
-use Rattle.schedule.proofs.Cells.{iteration-lt}
+use Rattle.schedule.proofs.Cells.{iteration-lt, tabulate-same}
 use Rattle.schedule.proofs.Plans.{use-parts, use-radix, use-radix-some, use-stride-some}
 use Rattle.twiddle.specs.Places.{place}
 use Rattle.floats.specs.declared.complex.Complex.{Complex}
@@ -29,13 +29,6 @@ use Rattle.kernel.specs.Floats.{floats, lentAt, stageOf}
 use Rattle.kernel.proofs.Kernel.{total-same}
 use Rattle.kernel.proofs.Widths.{place-lt}
 use Rattle.stage.specs.Runs.{ownOf, stageIn, runOf, lentTo}
-
-tabulate-same : {A : Type 0} (k n : ℕ) (f g : ℕ → A) → ((i : ℕ) → i < k → f (n + i) ≡ g (n + i)) → tabulate k n f ≡ tabulate k n g
-unfolding tabulate
-tabulate-same zero n f g e = refl
-tabulate-same (suc k) n f g e =
-    let here : n + 0 ≡ n = omega arith in
-    ap₂ (λ x xs. x ∷ xs) (rw here at (e 0 (omega arith))) (tabulate-same k (suc n) f g (λ i l. rw (suc-add, ← add-suc) (e (suc i) (omega arith))))
 
 -- two stages that are lent the same for each iteration and number
 abbrev pub Agree : (M r : ℕ) → (ℕ → ℕ → Complex) → (ℕ → ℕ → Complex) → Type 0

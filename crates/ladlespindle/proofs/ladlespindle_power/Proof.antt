@@ -1,0 +1,27 @@
+-- `ladlespindle::ladlespindle_power` meets its contract. Assumes nothing.
+use Prim.Native.Nat.{ℕ}
+use mathlib.Core.Path.{ap, ap₂, _∙_}
+use borrow.Author.Needs.{needs}
+use Rattle.ladlespindle.specs.Calls.{powerAs, powered}
+use Rattle.ladlespindle.proofs.ladlespindle_power.Statement.{statement}
+use Rattle.ladlespindle.proofs.ladlespindle_power.Tie as tie
+
+power-requires : tie.Need-power-requires
+power-requires c κs = search needs
+
+number-requires : tie.Need-number-requires
+number-requires c κs = search needs
+
+place-requires : tie.Need-place-requires
+place-requires c κs = search needs
+
+returns : tie.Need-returns
+returns c =
+    let s = c .before .before .power in
+    record {
+      answer =
+          ap₂ (λ (n k : ℕ). powerAs n k (s .result .power)) (c .before .number .ensures .answer) (c .place .ensures .answer) ∙ ap powered (s .ensures .answer);
+    }
+
+pub ladlespindle-power-spec : {M : Type 1} → statement M
+ladlespindle-power-spec = tie.close (tie.spec power-requires number-requires place-requires returns)

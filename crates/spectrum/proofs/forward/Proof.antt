@@ -1,0 +1,65 @@
+-- `spectrum::forward` meets its contract. Assumes nothing.
+use mathlib.Core.Path.{refl, sym, ap, _∙_}
+use mathlib.Core.Bool.{Bool}
+use borrow.Author.Needs.{needs}
+use lib.Dec.{eqb}
+use lib.Ieee.{ofBits}
+use lib.ListN.{length}
+use Rattle.refusal.proofs.Rows.{settles-refused, settles-accepted}
+use Rattle.spectrum.specs.Calls.{lentVerdict}
+use Rattle.spectrum.proofs.Verdicts.{forwardable}
+use Rattle.spectrum.proofs.forward.Statement.{statement}
+use Rattle.spectrum.proofs.forward.Tie as tie
+
+is-bins-requires : tie.Need-is-bins-requires
+is-bins-requires c κs = search needs
+
+lent-requires : tie.Need-lent-requires
+lent-requires c κs = search needs
+
+enum-told : tie.Need-enum-told
+enum-told c = search needs
+
+forward-requires : tie.Need-forward-requires
+unfolding ofBits
+forward-requires c κs =
+    let a = c .before .before .before .before .before .before .before .before .before .before .before .before .args in
+    forwardable (a .plan) (a .width) _ _ (length (a .input .now)) (length (a .output .now)) (length (a .scratch .now)) 32 (a .input .now) (a .stage .now) (a .end .now) _ refl (c .before .before .before .before .before .is-bins .ensures) (c .before .before .before .before .lent .ensures 32 refl) (c .before .before .enum-told .given .1)
+
+enum-known-why : tie.Need-enum-known-why
+enum-known-why c = search needs
+
+same-length : tie.Need-same-length
+same-length c = search needs
+
+same-length-2 : tie.Need-same-length-2
+same-length-2 c = search needs
+
+returns : tie.Need-returns
+unfolding ofBits
+returns c =
+    let a = c .before .before .before .before .before .before .before .before .before .before .before .before .before .before .before .before .before .args in
+    let made = c .before .before .before .before .forward .ensures in
+    let told = c .before .before .before .before .before .before .before .before .before .lent .ensures 32 refl ∙ ap (λ (b : Bool). lentVerdict (a .plan) (a .width) (eqb (length (a .input .now)) (a .plan .n)) b (length (a .scratch .now)) 32 (a .input .now) (a .stage .now) (a .end .now)) (c .before .before .before .before .before .before .before .before .before .before .is-bins .ensures) in
+    settles-accepted _ _ _ _ (sym (c .before .before .before .before .before .before .before .enum-told .given .1) ∙ told) (λ i. (made .0 i, made .1 i))
+
+returns-2 : tie.Need-returns-2
+unfolding ofBits
+returns-2 c =
+    let a = c .before .before .before .before .before .before .before .before .before .before .before .args in
+    let told = c .before .before .before .lent .ensures 32 refl ∙ ap (λ (b : Bool). lentVerdict (a .plan) (a .width) (eqb (length (a .input .now)) (a .plan .n)) b (length (a .scratch .now)) 32 (a .input .now) (a .stage .now) (a .end .now)) (c .before .before .before .before .is-bins .ensures) in
+    settles-refused _ _ _ _ (sym (c .before .why .given .1) ∙ told)
+
+pub forward-spec : {M : Type 1} → statement M
+forward-spec =
+    tie.close
+    (tie.spec
+    is-bins-requires
+    lent-requires
+    enum-told
+    forward-requires
+    enum-known-why
+    same-length
+    same-length-2
+    returns
+    returns-2)

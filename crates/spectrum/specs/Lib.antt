@@ -1,0 +1,5 @@
+-- The definitions that contracts cite.
+pub mod Transforms
+pub mod Parts
+pub mod Calls
+pub mod Power

@@ -1,0 +1,138 @@
+// Which plans, widths, lengths and numbers are taken.
+use floats::inner::scan::first_unfit;
+use plan::Record;
+use plan::inner::records::is_planned;
+use plan::inner::stages::end_count;
+use plan::inner::stages::twiddle_start;
+use refusal::Refusal;
+use refusal::Verdict;
+use twiddle::inner::check::is_width;
+ghost use mathlib.Core.Path.{_≡_};
+ghost use Prim.Native.Nat.{ℕ, _+_, _*_};
+ghost use lib.Dec.{eqb};
+ghost use Rattle.floats.specs.Scan.{bound};
+ghost use Rattle.spectrum.specs.Calls.{sizeVerdict, numberVerdict, lentVerdict};
+ghost use Rattle.spectrum.specs.Power.{powerVerdict};
+
+// Whether so many words are those of h + 1 bins.
+pub fn is_bins(words: usize, h: usize) -> bool
+    ensures { λ r. ⌜ r ≡ eqb words (2 * (h + 1)) ⌝ }
+{
+    if words < 2 {
+        return false;
+    }
+    if words % 2 != 0 {
+        return false;
+    }
+    words / 2 - 1 == h
+}
+
+// Refusals 5, 6 and 8, in this order: whether input and output have their lengths, and how many words the other slices have.
+fn sizes(
+    plan: Record,
+    width: usize,
+    input: bool,
+    output: bool,
+    scratch: usize,
+    stage: usize,
+    end: usize,
+) -> Verdict
+    ensures { λ r. ⌜ r ≡ sizeVerdict plan width input output scratch stage end ⌝ }
+{
+    if !is_planned(plan) {
+        return Verdict::Refused(Refusal::NotPlanned(0));
+    }
+    if !is_width(width) {
+        return Verdict::Refused(Refusal::Width);
+    }
+    if !input {
+        return Verdict::Refused(Refusal::Length(0));
+    }
+    if !output {
+        return Verdict::Refused(Refusal::Length(1));
+    }
+    if scratch < 6 * plan.n {
+        return Verdict::Refused(Refusal::Length(2));
+    }
+    if stage != 2 * twiddle_start(plan, plan.count) {
+        return Verdict::Refused(Refusal::Length(3));
+    }
+    if end != 2 * end_count(plan.n) {
+        return Verdict::Refused(Refusal::Length(4));
+    }
+    Verdict::Accepted
+}
+
+// Refusals 9 and 10, in this order, with so large a bound for the input.
+fn numbers(input: &[f32], most: f32, stage: &[f32], end: &[f32]) -> Verdict
+    ensures { λ r. ⌜ ((k : ℕ) → most ≡ bound k → r ≡ numberVerdict k (now (input .entry)) (now (stage .entry)) (now (end .entry))) ⌝ }
+{
+    let large = first_unfit(input, most);
+    if large < input.len() {
+        return Verdict::Refused(Refusal::Number(large));
+    }
+    let wide = first_unfit(stage, 1.0);
+    if wide < stage.len() {
+        return Verdict::Refused(Refusal::Twiddle(wide));
+    }
+    let last = first_unfit(end, 1.0);
+    if last < end.len() {
+        return Verdict::Refused(Refusal::Twiddle(stage.len() + last));
+    }
+    Verdict::Accepted
+}
+
+// The verdict of a transform.
+pub fn lent(
+    plan: Record,
+    width: usize,
+    is_input: bool,
+    is_output: bool,
+    scratch: usize,
+    most: f32,
+    input: &[f32],
+    stage: &[f32],
+    end: &[f32],
+) -> Verdict
+    ensures { λ r. ⌜ ((k : ℕ) → most ≡ bound k → r ≡ lentVerdict plan width «is_input» «is_output» scratch k (now (input .entry)) (now (stage .entry)) (now (end .entry))) ⌝ }
+{
+    match sizes(
+        plan,
+        width,
+        is_input,
+        is_output,
+        scratch,
+        stage.len(),
+        end.len(),
+    ) {
+        Verdict::Accepted => numbers(input, most, stage, end),
+        Verdict::Refused(why) => Verdict::Refused(why),
+    }
+}
+
+// Refusals 8, 14 and 9 of a sum of power, in this order.
+pub fn lent_bins(spectrum: &[f32], lo: usize, hi: usize) -> Verdict
+    ensures { λ r. ⌜ r ≡ powerVerdict (now (spectrum .entry)) lo hi ⌝ }
+{
+    let words = spectrum.len();
+    if words % 2 != 0 {
+        return Verdict::Refused(Refusal::Length(0));
+    }
+    if words < 4 {
+        return Verdict::Refused(Refusal::Length(0));
+    }
+    if words > 8194 {
+        return Verdict::Refused(Refusal::Length(0));
+    }
+    if hi < lo {
+        return Verdict::Refused(Refusal::Bins);
+    }
+    if hi >= words / 2 {
+        return Verdict::Refused(Refusal::Bins);
+    }
+    let large = first_unfit(spectrum, 281474976710656.0);
+    if large < words {
+        return Verdict::Refused(Refusal::Number(large));
+    }
+    Verdict::Accepted
+}
