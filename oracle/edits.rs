@@ -75,6 +75,16 @@ pub use resampler_fir::{Attenuation, Latency, ResamplerFir};
     },
     Edit {
         file: "fft/radix_fft.rs",
+        old: "\n    fn postprocess_fft(",
+        new: "\n    pub(crate) fn postprocess_fft(",
+    },
+    Edit {
+        file: "fft/radix_fft.rs",
+        old: "\n    fn preprocess_ifft(",
+        new: "\n    pub(crate) fn preprocess_ifft(",
+    },
+    Edit {
+        file: "fft/radix_fft.rs",
         old: r#"    n: usize,
     n2: usize,
     factors: Vec<Radix>,

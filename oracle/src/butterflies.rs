@@ -7,7 +7,7 @@ use crate::asked;
 use crate::Complex32;
 
 /// Where twiddle k of iteration i stands among those of its stage: m iterations of radix r, packed for a width.
-fn place(m: usize, r: usize, width: usize, i: usize, k: usize) -> usize {
+pub(crate) fn place(m: usize, r: usize, width: usize, i: usize, k: usize) -> usize {
     if i < m / width * width {
         i / width * width * (r - 1) + (k - 1) * width + i % width
     } else {

@@ -2,12 +2,13 @@
 //! place of the original's crate root.
 //!
 //! `oracle KIND` prints a record for each case, and `oracle sample KIND` the recorded ones among them: planning and scaling,
-//! of twiddles layouts, places, fillings and words, and of stages stages, cells and runs. text.rs says what stands in a
-//! record. The counts go to standard error.
+//! of twiddles layouts, places, fillings and words, of stages stages, cells and runs, and of spectra forward, inverse, ends
+//! and whole. text.rs says what stands in a record. The counts go to standard error.
 extern crate alloc;
 
 mod asked;
 mod butterflies;
+mod draws;
 #[allow(dead_code, unused_imports, unused_macros)]
 mod fft;
 mod lists;
@@ -16,6 +17,7 @@ mod planning;
 mod rates;
 mod rust;
 mod scaling;
+mod spectra;
 mod stages;
 mod table;
 mod text;
@@ -70,8 +72,14 @@ fn main() -> std::io::Result<()> {
         ["sample", kind @ ("stages" | "cells" | "runs")] => {
             print(&format!("recorded {kind}"), none_refused(stages::sample(kind)))
         }
+        [kind @ ("forward" | "inverse" | "ends" | "whole")] => {
+            print(kind, none_refused(spectra::records(kind)))
+        }
+        ["sample", kind @ ("forward" | "inverse" | "ends" | "whole")] => {
+            print(&format!("recorded {kind}"), none_refused(spectra::sample(kind)))
+        }
         _ => {
-            eprintln!("usage: oracle [sample] planning|scaling|layouts|places|fillings|words|stages|cells|runs");
+            eprintln!("usage: oracle [sample] planning|scaling|layouts|places|fillings|words|stages|cells|runs|forward|inverse|ends|whole");
             std::process::exit(2)
         }
     }

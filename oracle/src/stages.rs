@@ -1,19 +1,13 @@
 //! Stages: what the transcribed kernels and the original's driver make of cells and lent twiddles, and the recorded ones among them.
-//!
-//! Cells and lent words are drawn from a seed by a generator that a program draws from too: each number x follows from the one
-//! before by 279,470,273 x modulo the checksum's modulus, and gives one word: its highest binary digit is the sign, the lowest 23
-//! the fraction, and the 8 between choose the exponent in a way of their own for each kind.
 use crate::asked;
 use crate::butterflies::butterfly;
+use crate::draws::{lines, seed, sum, Draws, LENDINGS, TURNS};
 use crate::fft::stockham_autosort::OutputLocation;
 use crate::fft::{Complex32, Forward, RadixFFT};
 use crate::lists::{product, Dice, RADICES};
 use crate::rust::radices;
 use crate::text::{list, number, word, LENT};
-use crate::twiddles::{checksum, lists, stages, words, Stage, MODULUS, WIDTHS};
-
-/// What the generator multiplies by.
-const FACTOR: u64 = 279_470_273;
+use crate::twiddles::{lists, stages, Stage, WIDTHS};
 
 /// The kinds of cells: near 1, extreme, with zeros of both signs, and subnormal.
 const CELLS: [char; 4] = ['N', 'E', 'Z', 'S'];
@@ -21,73 +15,8 @@ const CELLS: [char; 4] = ['N', 'E', 'Z', 'S'];
 /// The kinds whose runs stay within what a stage takes.
 const RUN: [char; 3] = ['N', 'Z', 'S'];
 
-/// The kind of lent twiddles: at most 1 in magnitude.
-const TURNS: char = 'T';
-
-/// Whose twiddles are lent: the original's, or drawn ones.
-const LENDINGS: [char; 2] = ['R', 'D'];
-
 /// The largest half of which every word is given.
 const SMALL: usize = 20;
-
-/// The draws from a seed.
-struct Draws(u64);
-
-impl Draws {
-    /// The next word of a kind.
-    fn word(&mut self, kind: char) -> u32 {
-        self.0 = self.0 * FACTOR % MODULUS;
-        let x = self.0 as u32;
-        let (sign, chosen, fraction) = (x >> 31, x >> 23 & 255, x & 0x7f_ffff);
-        let (exponent, fraction) = match (kind, chosen) {
-            // 2^-16 to 1
-            ('N', _) => (126 - chosen % 16, fraction),
-            // 2^48 itself, and 2^-79 to 2^48
-            ('E', 255) => (175, 0),
-            ('E', _) => (174 - chosen % 128, fraction),
-            // zeros every other time, and else 2^-16 to 1
-            ('Z', 0..128) => (0, 0),
-            ('Z', _) => (126 - chosen % 16, fraction),
-            // subnormal three times of four, and else up to 2^-117
-            ('S', 0..192) => (0, fraction),
-            ('S', _) => (1 + chosen % 9, fraction),
-            // 1 and 0, and 2^-16 to 1
-            ('T', 255) => (127, 0),
-            ('T', 254) => (0, 0),
-            ('T', _) => (126 - chosen % 16, fraction),
-            _ => panic!("{kind} is no kind"),
-        };
-        sign << 31 | exponent << 23 | fraction
-    }
-
-    /// The next so many numbers of a kind.
-    fn numbers(&mut self, kind: char, count: usize) -> Vec<Complex32> {
-        let mut next = || f32::from_bits(self.word(kind));
-        (0..count)
-            .map(|_| {
-                let re = next();
-                Complex32::new(re, next())
-            })
-            .collect()
-    }
-}
-
-/// The words of numbers.
-fn all_words(numbers: &[Complex32]) -> Vec<u32> {
-    numbers.iter().flat_map(words).collect()
-}
-
-/// The checksum of the words of numbers.
-fn sum(numbers: &[Complex32]) -> String {
-    let each = all_words(numbers);
-    number(checksum(each.into_iter().map(u64::from)) as usize, 10)
-}
-
-/// The lines of words.
-fn lines(numbers: &[Complex32]) -> Vec<String> {
-    let each = all_words(numbers);
-    each.iter().map(|bits| word(Some(bits))).collect()
-}
 
 /// A stage of a plan, with the original's twiddles for a width.
 struct Group {
@@ -165,7 +94,7 @@ impl Group {
 
     /// What the kernel makes of cells of a kind and of the lent twiddles.
     fn case(&self, lending: char, kind: char, seed: u32) -> Case {
-        let mut draws = Draws(u64::from(seed));
+        let mut draws = Draws::from(seed);
         let input = draws.numbers(kind, self.half);
         let twiddles = match lending {
             'R' => self.own.clone(),
@@ -229,16 +158,11 @@ impl Case {
     }
 }
 
-/// A seed, which is not 0.
-fn seed(dice: &mut Dice) -> u32 {
-    1 + dice.below(MODULUS as usize - 1) as u32
-}
-
 /// A run of the original's driver on cells of a kind, at scalar width.
 fn run(lent: &[u8], kind: char) -> String {
     let fft = RadixFFT::<Forward>::new(radices(lent));
     let seed = seed(&mut Dice(product(lent) as u64));
-    let mut cells = Draws(u64::from(seed)).numbers(kind, 2 * fft.n2);
+    let mut cells = Draws::from(seed).numbers(kind, 2 * fft.n2);
     cells.resize(fft.scratchpad_size(), Complex32::zero());
     let buffer = match fft.process_forward_complex(&mut cells) {
         OutputLocation::Data => 0,

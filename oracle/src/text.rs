@@ -7,7 +7,7 @@
 //! A scaling line has 88 bytes: in-list 16, out-list 16, number 2, place 2, p 3, in-product 4, out-product 4,
 //! count of the scaled in-list 2, that list 13, count of the scaled out-list 2, that list 13.
 //!
-//! Of twiddles, F is the forward direction and I the inverse; a word is the bits of an f32, in hexadecimal.
+//! Of twiddles and transforms, F is the forward direction and I the inverse; a word is the bits of an f32, in hexadecimal.
 //!
 //! A layout's line has 36 bytes: lent list 16, width 1, twiddles of the stages 5, checksum 10. The checksum is taken over
 //! where each twiddle stands among those of its stage, by stages from the second on, iterations and numbers.
@@ -27,7 +27,7 @@
 //! Stages start with a line of 26 bytes: lent list 16, number of the stage 1, width 1, words of its twiddles 4. A line of 9
 //! bytes follows for each word of the original's twiddles of that stage, packed for the width, and eight lines of 24 bytes, each
 //! with a case: twiddles 1 (R the original's, D drawn), kind of the cells 1, seed 8 in hexadecimal, checksum 10. The cells are
-//! drawn from the seed, and after them the twiddles where they are drawn; stages.rs says how. The checksum is taken over the words
+//! drawn from the seed, and after them the twiddles where they are drawn; draws.rs says how. The checksum is taken over the words
 //! that the stage writes.
 //!
 //! Cells start with the same line of 26 bytes. A line of 9 bytes follows for each word that the stage reads, for each word of
@@ -36,6 +36,24 @@
 //! Runs start with a line of 52 bytes: lent list 16, kind of the cells 1, seed 8, buffer of the result 1, checksum of the data
 //! 10, checksum of the scratchpad 10, both as the original's driver leaves them. The cells of both are drawn from the seed,
 //! the data first. A line of 9 bytes follows for each word of the twiddles of all stages, packed for width 1.
+//!
+//! Forward and inverse transforms start with a line of 28 bytes: lent list 16, words of the twiddles of the stages 5, words of
+//! those of the end 4. A line of 9 bytes follows for each word of the original's twiddles of the stages, packed for width 1,
+//! and of the end, and 42 lines of 37 bytes, each with a case: twiddles 1 (R the original's, D drawn), kind of what is read 1,
+//! seed 8, how much more than needed is lent 1, checksum of the output 10, checksum of the scratch 10. The scratch has so many
+//! cells more, and an inverse's output so many words. From the seed are drawn, in this order, the twiddles of the stages, as
+//! packed for width 1, and those of the end where they are drawn, what the transform reads, and what output and scratch hold
+//! beforehand. The checksums are taken over all words of output and scratch.
+//!
+//! Ends start with a line of 24 bytes: lent list 16, direction 1, words of the twiddles 4. A line of 9 bytes follows for each
+//! word of the original's twiddles of the end, and 42 lines of 24 bytes, each with a case: twiddles 1, kind of the cells 1, seed
+//! 8, checksum 10. From the seed are drawn the twiddles where they are drawn, and then the cells. The checksum is taken over
+//! the words of all cells afterwards.
+//!
+//! Whole transforms start with a line of 34 bytes: lent list 16, direction 1, width 1, how much more than needed is lent 1, words
+//! of the twiddles of the stages 5, words of those of the end 4. A line of 9 bytes follows for each word that the transform
+//! reads, for each word of the twiddles of the stages, packed for the width, and of the end, for each word that output and scratch
+//! hold beforehand, and for each word that they hold afterwards.
 //!
 //! A checksum starts from 0; each number x takes a sum s to 31 s + x modulo 4,294,967,291.
 //!

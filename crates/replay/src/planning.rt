@@ -1,10 +1,10 @@
 // A planning record: the lent list, and every field of its answer.
-use crate::text::holds;
-use crate::text::lent;
-use crate::text::shows;
 use plan::Merges;
 use plan::Radices;
 use plan::Record;
+use records::inner::text::holds;
+use records::inner::text::lent;
+use records::inner::text::shows;
 use refusal::Verdict;
 ghost use mathlib.Core.Path.{_≡_};
 ghost use lib.ListN.{length};

@@ -1,9 +1,9 @@
 // A scaling record: both base lists, and every field of their answer.
-use crate::text::holds;
-use crate::text::lent;
-use crate::text::shows;
 use plan::Radices;
 use plan::Scaled;
+use records::inner::text::holds;
+use records::inner::text::lent;
+use records::inner::text::shows;
 use refusal::Verdict;
 ghost use mathlib.Core.Path.{_≡_};
 ghost use lib.ListN.{length};

@@ -5,8 +5,8 @@ use crate::question::asked;
 use crate::rooms::cells;
 use crate::rooms::twiddles;
 use crate::stages::done;
-use crate::words::read;
-use crate::words::same;
+use records::inner::words::read;
+use records::inner::words::same;
 ghost use mathlib.Core.Path.{_≡_};
 ghost use lib.ListN.{length};
 

@@ -1,9 +1,11 @@
 // What a record asks: a stage of the plan of a list, at a width.
-use crate::text::digit;
-use crate::text::lent;
-use crate::text::shows;
-use crate::text::wide;
 use plan::Record;
+use records::inner::places::iterations;
+use records::inner::places::room;
+use records::inner::plans::planned;
+use records::inner::text::digit;
+use records::inner::text::shows;
+use records::inner::text::wide;
 ghost use mathlib.Core.Path.{_≡_};
 ghost use lib.ListN.{length};
 
@@ -37,15 +39,6 @@ pub fn asked(line: &[u8]) -> Question
     }
 }
 
-// The plan of a list, which is that of no length where planning refuses it.
-pub fn planned(columns: &[u8]) -> Record {
-    let list = lent(columns);
-    let count = list.count;
-    let bytes = list.bytes;
-    let answer = plan::plan(&bytes[..count]);
-    answer.plan
-}
-
 // How many words the cells of a plan have.
 pub fn cell_words(plan: Record) -> usize {
     if plan.half > 4096 {
@@ -60,22 +53,5 @@ pub fn twiddle_words(plan: Record, number: usize) -> usize {
         return 0;
     }
     let r = wide(plan.radices[number]);
-    if r == 0 {
-        return 0;
-    }
-    of_iterations(plan.half / r, r)
-}
-
-// How many words the twiddles of m iterations of a radix have.
-fn of_iterations(m: usize, r: usize) -> usize {
-    if m > 4096 {
-        return TOO_MANY;
-    }
-    if r == 0 {
-        return TOO_MANY;
-    }
-    if r > 8 {
-        return TOO_MANY;
-    }
-    2 * (m * (r - 1))
+    2 * room(iterations(plan.half, r), r)
 }

@@ -15,10 +15,3 @@ pub fn twiddles() -> [f32; 7168]
 {
     [0.0; 7168]
 }
-
-// Zeros for the lines of so many words.
-pub fn lines() -> [u8; 73728]
-    ensures { λ r. ⌜ 73728 ≡ length r ⌝ }
-{
-    [0; 73728]
-}

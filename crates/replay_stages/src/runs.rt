@@ -1,18 +1,18 @@
 // A run: the list, the kind of its cells, their seed, the buffer of the result, and checksums of both buffers as the
 // original's driver leaves them; then the words of the twiddles of all stages.
-use crate::draws::fill;
-use crate::draws::is_kind;
 use crate::question::cell_words;
-use crate::question::planned;
 use crate::question::twiddle_words;
 use crate::rooms::cells;
 use crate::rooms::twiddles;
-use crate::text::shows;
-use crate::text::word;
-use crate::words::copy;
-use crate::words::read;
-use crate::words::summed;
 use plan::Record;
+use records::inner::draws::fill;
+use records::inner::draws::is_kind;
+use records::inner::plans::planned;
+use records::inner::text::shows;
+use records::inner::text::word;
+use records::inner::words::copy;
+use records::inner::words::read;
+use records::inner::words::summed;
 ghost use mathlib.Core.Path.{_≡_};
 ghost use lib.ListN.{length};
 

@@ -1,15 +1,15 @@
 // A stage: the list, its number, the width and how many words its twiddles have; the original's words of them; and eight
 // cases with cells of a kind drawn from a seed, the original's twiddles or drawn ones, and a checksum of what the stage writes.
-use crate::draws::fill;
-use crate::draws::is_kind;
 use crate::question::Question;
 use crate::question::asked;
 use crate::rooms::cells;
 use crate::rooms::twiddles;
-use crate::text::shows;
-use crate::text::word;
-use crate::words::read;
-use crate::words::summed;
+use records::inner::draws::fill;
+use records::inner::draws::is_kind;
+use records::inner::text::shows;
+use records::inner::text::word;
+use records::inner::words::read;
+use records::inner::words::summed;
 ghost use mathlib.Core.Path.{_≡_};
 ghost use lib.ListN.{length};
 

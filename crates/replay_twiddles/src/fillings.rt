@@ -2,10 +2,11 @@
 // each, how many whole quarters of each kind there are, and a checksum.
 use crate::question::Question;
 use crate::question::asked;
-use crate::sums::mixed;
-use crate::text::shows;
-use crate::text::shows_none;
-use crate::text::shows_word;
+use records::inner::bits::bits;
+use records::inner::text::shows;
+use records::inner::text::shows_none;
+use records::inner::text::shows_word;
+use records::inner::words::summed_on;
 ghost use mathlib.Core.Path.{_≡_};
 ghost use lib.ListN.{length};
 
@@ -64,7 +65,7 @@ fn shows_filling(line: &[u8], stage: &[f32], end: &[f32]) -> bool
         && shows_outer(&line[32..49], stage)
         && shows_outer(&line[50..67], end)
         && shows_quarters(&line[68..87], stage)
-        && shows(&line[88..98], summed(summed(0, stage), end) as usize)
+        && shows(&line[88..98], summed_on(summed_on(0, stage), end) as usize)
 }
 
 // Two words for each twiddle, as far as any plan has them.
@@ -86,25 +87,6 @@ pub fn filled(question: Question, direction: u8, stage: &mut [f32], end: &mut [f
         return twiddle::fill_inverse(plan, width, stage, end).number() == 0;
     }
     false
-}
-
-// The bits of a word, and those of a NaN for every NaN.
-pub fn bits(x: f32) -> u32 {
-    if x != x {
-        return 0x7fc00000;
-    }
-    f32::to_bits(x)
-}
-
-// The checksum with words more.
-fn summed(before: u64, words: &[f32]) -> u64 {
-    let mut sum = before;
-    let mut i: usize = 0;
-    while i < words.len() {
-        sum = mixed(sum, bits(words[i]) as u64);
-        i += 1;
-    }
-    sum
 }
 
 // Whether two columns show the first and the last of some words, or none.

@@ -1,11 +1,11 @@
 // A layout: the list, the width, how many places there are, and a checksum of where each twiddle stands.
-use crate::places::iterations;
-use crate::places::standing;
 use crate::question::asked;
-use crate::sums::mixed;
-use crate::text::shows;
-use crate::text::wide;
 use plan::Record;
+use records::inner::places::iterations;
+use records::inner::places::standing;
+use records::inner::text::shows;
+use records::inner::text::wide;
+use records::inner::words::mixed;
 
 // Whether the library packs a record's list as the record says.
 pub fn agrees(line: &[u8]) -> bool {

@@ -1,22 +1,13 @@
 // The places of a layout: the list, the width and how many places there are; then what stands at each place,
 // an iteration and a number, stage by stage from the second on.
 use crate::question::asked;
-use crate::text::digit;
-use crate::text::shows;
-use crate::text::wide;
 use plan::Record;
-use twiddle::inner::places::place;
-
-// No place: more than any stage has.
-const NOWHERE: usize = 99999;
-
-// Where a twiddle stands by the library, and nowhere where no stage has it.
-pub fn standing(m: usize, r: usize, width: usize, i: usize, k: usize) -> usize {
-    if m > 4096 || i >= m || r > 8 || k < 1 || k >= r || width < 1 || width > 4 {
-        return NOWHERE;
-    }
-    place(m, r, width, i, k)
-}
+use records::inner::places::iterations;
+use records::inner::places::room;
+use records::inner::places::standing;
+use records::inner::text::digit;
+use records::inner::text::shows;
+use records::inner::text::wide;
 
 // Whether the library packs a record's list as the lines of the file say.
 pub fn agrees(line: &[u8], fd: i32) -> bool {
@@ -45,28 +36,6 @@ fn follow(plan: Record, width: usize, fd: i32) -> bool {
         j += 1;
     }
     is_same
-}
-
-// How many iterations a stage has.
-pub fn iterations(half: usize, r: usize) -> usize {
-    if r == 0 {
-        return 0;
-    }
-    half / r
-}
-
-// How many places a stage has.
-fn room(m: usize, r: usize) -> usize {
-    if m > 4096 {
-        return NOWHERE;
-    }
-    if r == 0 {
-        return NOWHERE;
-    }
-    if r > 8 {
-        return NOWHERE;
-    }
-    m * (r - 1)
 }
 
 // Whether the lines that follow show what stands at the places of a stage.

@@ -1,8 +1,8 @@
 // What a record asks: the plan of a list, and a width.
-use crate::text::digit;
-use crate::text::lent;
-use crate::text::wide;
 use plan::Record;
+use records::inner::text::digit;
+use records::inner::text::lent;
+use records::inner::text::wide;
 ghost use mathlib.Core.Path.{_≡_};
 ghost use lib.ListN.{length};
 

@@ -1,14 +1,14 @@
 // The words of a filling: the list, the width, the direction and how many words the stages and the ends have; then the
 // words as the original has them. Its words of whole quarters are others than the library's, each in its own way.
-use crate::fillings::bits;
 use crate::fillings::doubled;
 use crate::fillings::end_room;
 use crate::fillings::filled;
 use crate::fillings::stage_room;
 use crate::question::Question;
 use crate::question::asked;
-use crate::text::shows;
-use crate::text::shows_word;
+use records::inner::bits::bits;
+use records::inner::text::shows;
+use records::inner::text::shows_word;
 ghost use mathlib.Core.Path.{_≡_};
 ghost use lib.ListN.{length};
 

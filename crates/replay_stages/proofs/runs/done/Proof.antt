@@ -1,5 +1,5 @@
 -- `replay_stages::runs::done` is safe: the words have room. Assumes nothing.
-use Rattle.replay_stages.proofs.Prefixes.{part-long}
+use Rattle.records.proofs.Prefixes.{part-long}
 use borrow.Author.Needs.{needs}
 use Rattle.replay_stages.proofs.runs.done.Statement.{statement}
 use Rattle.replay_stages.proofs.runs.done.Tie as tie

@@ -1,5 +1,5 @@
 -- `replay_stages::stages::agrees` is safe: all words have room. Assumes nothing.
-use Rattle.replay_stages.proofs.Prefixes.{part-long}
+use Rattle.records.proofs.Prefixes.{part-long}
 use borrow.Author.Needs.{needs}
 use Rattle.replay_stages.proofs.stages.agrees.Statement.{statement}
 use Rattle.replay_stages.proofs.stages.agrees.Tie as tie

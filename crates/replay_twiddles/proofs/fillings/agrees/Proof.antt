@@ -1,6 +1,6 @@
 -- `replay_twiddles::fillings::agrees` meets its contract. Assumes nothing.
 use borrow.Author.Needs.{needs}
-use Rattle.replay_twiddles.proofs.Rooms.{part-long}
+use Rattle.records.proofs.Prefixes.{part-long}
 use Rattle.replay_twiddles.proofs.fillings.agrees.Statement.{statement}
 use Rattle.replay_twiddles.proofs.fillings.agrees.Tie as tie
 

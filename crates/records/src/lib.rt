@@ -1,0 +1,2 @@
+// What the programs that replay recorded answers share.
+pub mod inner;
