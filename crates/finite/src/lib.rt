@@ -1,0 +1,1 @@
+// How large floats can grow: definitions and laws.
