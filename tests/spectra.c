@@ -219,11 +219,13 @@ static size_t watched(struct call c, size_t i)
     return (c.length[i] > c.needed[i] ? c.length[i] : c.needed[i]) + 2 * EDGE;
 }
 
-/* Every word that is watched tells where it stands. */
+/* Every word that is watched tells where it stands. Those of output and scratch are NaNs, which must keep their very bits where nothing is
+ * written: the proved promise does not tell one NaN from another. */
 static void mark(struct call c)
 {
     for (size_t i = 0; i < SLICES; i++)
-        for (size_t j = 0; j < watched(c, i); j++) lent[i][j] = of_bits((uint32_t)(0x40000000 + i * ROOM + j));
+        for (size_t j = 0; j < watched(c, i); j++)
+            lent[i][j] = of_bits((uint32_t)((i == OUTPUT || i == SCRATCH ? 0x7f900000 : 0x40000000) + i * ROOM + j));
 }
 
 /* What is read: random numbers, or the largest with random signs, or zeros and ones of both signs, which often cancel. */

@@ -124,12 +124,13 @@ static struct {
     float before[EDGE], at[2 * CELLS + 1], after[EDGE];
 } out;
 
+/* Whether every other word is the NaN that it was lent as, bit for bit: the proved promise does not tell one NaN from another. */
 static int untouched(size_t used)
 {
     const unsigned char *byte = (const unsigned char *)&out;
     size_t first = sizeof out.before, end = first + used * sizeof *out.at;
     for (size_t i = 0; i < sizeof out; i++)
-        if ((i < first || i >= end) && byte[i] != 0x5a) return 0;
+        if ((i < first || i >= end) && byte[i] != 0xff) return 0;
     return 1;
 }
 
@@ -147,7 +148,7 @@ static void fill_at_random(size_t words, size_t own)
 
 static ladlespindle_answer staged(ladlespindle_record plan, size_t number, size_t width, size_t in_length, size_t out_length, size_t own)
 {
-    memset(&out, 0x5a, sizeof out);
+    memset(&out, 0xff, sizeof out);
     return ladlespindle_stage(plan, number, width, in_length ? in : NULL, in_length, out_length ? out.at : NULL, out_length, own ? twiddles : NULL, own);
 }
 

@@ -92,14 +92,15 @@ static size_t place(size_t m, size_t r, size_t width, size_t i, size_t k)
     return i * (r - 1) + k - 1;
 }
 
-/* Words between two edges that no call may write. */
+/* Words between two edges that no call may write. All are NaNs at first, and where nothing is written they must stay so bit for bit: the
+ * proved promise does not tell one NaN from another. */
 struct words {
     float before[EDGE], at[STAGE], after[EDGE];
 };
 
 static void edge(struct words *w)
 {
-    memset(w, 0x5a, sizeof *w);
+    memset(w, 0xff, sizeof *w);
 }
 
 static int kept(const struct words *w, size_t used)
@@ -107,7 +108,7 @@ static int kept(const struct words *w, size_t used)
     const unsigned char *byte = (const unsigned char *)w;
     size_t first = sizeof w->before, end = first + used * sizeof *w->at;
     for (size_t i = 0; i < sizeof *w; i++)
-        if ((i < first || i >= end) && byte[i] != 0x5a) return 0;
+        if ((i < first || i >= end) && byte[i] != 0xff) return 0;
     return 1;
 }
 
