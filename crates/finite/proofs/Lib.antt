@@ -3,6 +3,10 @@ pub mod Rounding
 pub mod Sizes
 pub mod Stages
 pub mod Words
+pub mod Bits
 pub mod Ends
 pub mod Transforms
+pub mod Calls
+pub mod Whole
+pub mod Exact
 pub mod Theorems

@@ -1,155 +1,101 @@
--- What a reader opens first: every number that an accepted call of `stage`, `forward` or `inverse` writes, or that `power` answers, is finite, with a
--- bound; where a plan has no stage the Scratchpad is not written. A stage adds five binary digits at most, the steps at the ends three. Assumes nothing.
+-- What a reader opens first, about the numbers that accepted float calls write and answer. Exact: whole numbers up to 2 ^ 20 at n = 2 and n = 4 give
+-- the transform itself. Finite: within the bounds that acceptance checks (samples to 2 ^ 32, numbers of bins to 2 ^ 48, twiddles to 1) every number
+-- written or answered is finite, with a bound below 2 ^ 128; so two runs that meet a promise leave the same bits in every word that a call writes. A
+-- plan has at most 13 stages. Assumes nothing.
+use Prim.Native.Nat.{ℕ, _+_, _*_, _≤_, _<_}
 use mathlib.Core.Path.{_≡_, refl, sym, ap, _∙_, subst}
-use mathlib.Core.Bool.{not, _||_}
-use mathlib.Core.List.{List, [], _∷_, _++_}
-use Prim.Native.Nat.{ℕ, zero, suc, _+_, _-_, _*_, _/_, _%_, _≤_, _<_}
-use native.Mathlib.Omega.{arith}
-use lib.Dec.{eqb, ltb, lit≤}
-use lib.Ieee.{Float, binary32, add}
-use lib.ListN.{length}
-use borrow.Author.Tests.{ltb-false}
-use Rattle.refusal.specs.Refusal.{Row, verdict}
-use Rattle.refusal.specs.declared.Refusal.the-variants.{Length, Number, Twiddle, Bins}
+use mathlib.Core.List.{List}
+use lib.Dec.{lit≤}
+use lib.IntN.{ℤ, pos, _*ℤ_}
+use lib.Ieee.{Float, nan}
+use lib.ListN.{length, getD}
 use Rattle.refusal.specs.declared.Verdict.{Verdict}
-use Rattle.refusal.specs.declared.Verdict.the-variants.{Accepted, Refused}
-use Rattle.refusal.proofs.Rows.{accepted-by, settled}
-use Rattle.plan.specs.Counts.{radix, twiddleCount}
+use Rattle.refusal.specs.declared.Verdict.the-variants.{Accepted}
+use Rattle.refusal.proofs.Rows.{settled}
 use Rattle.plan.specs.declared.Record.{Record}
-use Rattle.plan.proofs.Counts.{count-later}
-use Rattle.schedule.specs.Plans.{inUse}
-use Rattle.schedule.specs.Stage.{stage}
-use Rattle.schedule.proofs.Plans.{use-radix}
-use Rattle.twiddle.specs.Places.{place}
-use Rattle.floats.specs.Complexes.{cell, paired}
-use Rattle.floats.specs.Scan.{firstUnfit}
-use Rattle.floats.specs.declared.complex.Complex.{Complex}
-use Rattle.kernel.specs.Floats.{floats, lentAt, stageOf}
-use Rattle.kernel.proofs.Widths.{place-lt}
-use Rattle.stage.specs.Calls.{Stages, stageVerdict, sizeRows, numberRows}
-use Rattle.stage.proofs.Theorems.{stage-told, stage-left}
-use Rattle.spectrum.specs.Calls as Spectra
-use Rattle.spectrum.specs.Power.{powerOf, powerFrom, powerVerdict, Powers, summed}
+use Rattle.stage.specs.Calls.{Stages}
+use Rattle.stage.proofs.Unique.{Stages-one}
+use Rattle.spectrum.specs.Calls.{Forwards, Inverts}
+use Rattle.spectrum.specs.Power.{Powers}
 use Rattle.spectrum.specs.Transforms.{Slices, dataOf, padOf}
 use Rattle.spectrum.specs.declared.Summed.{Summed}
-use Rattle.spectrum.proofs.Sums.{bins-told}
+use Rattle.spectrum.proofs.Unique.{Forwards-one, Inverts-one, Powers-one}
 use Rattle.spectrum.proofs.Verdicts.{forwardable, invertible}
+use Rattle.finite.specs.Bits.{Holds, SameBits}
 use Rattle.finite.specs.Sizes.{AtMost}
-use Rattle.finite.proofs.Ends.{zero-most}
-use Rattle.finite.proofs.Sizes.{add-most, mul-most, most-wider}
-use Rattle.finite.proofs.Stages.{OnesIn, stage-all}
-use Rattle.finite.proofs.Words.{Words, scan-words, cell-both, words-cells, cells-words, stage-cells}
-use Rattle.finite.proofs.Transforms.{front-words, back-words, forward-words, forward-scratch, inverse-words, inverse-scratch}
+use Rattle.finite.specs.Whole.{IsWhole, Short, Small, Samples, IsBins}
+use Rattle.finite.proofs.Bits.{same-word, same-bits}
+use Rattle.finite.proofs.Calls.{Within, stage-lent-within, stage-within, power-within, samples-within, forward-within, bins-within, inverse-within}
+use Rattle.finite.proofs.Exact.{forward-whole, inverse-whole}
+use Rattle.finite.proofs.Words.{Words}
 
--- ---- what an accepted call tells of its numbers
+-- ---- exact, at lengths 2 and 4
 
--- rows that are accepted behind others
-behind : (rows more : List Row) → verdict (rows ++ more) ≡ Accepted → verdict more ≡ Accepted
-behind [] more e = e
-behind (row ∷ rows) more e = behind rows more (accepted-by (row .given) (row .why) (verdict (rows ++ more)) e .1)
+module _ (p : Record) (W : ℕ) (stage end xs : List Float) (before : Slices) (r : Verdict) (after : Slices) (x : ℕ → ℤ) where
+  -- forward leaves the transform of the whole numbers x
+  pub forward-exact : Forwards p W stage end xs before r after → r ≡ Accepted → Short (p .n) → Samples (p .n) x xs → IsBins (p .n) x (after .0)
+  forward-exact f e short g =
+      let t = forwardable p W _ _ (length xs) (length (before .0)) (length (before .1)) 32 xs stage end r refl refl (f .answer) e in
+      subst (λ (s : Slices). IsBins (p .n) x (s .0)) (sym (settled _ _ _ _ _ f (sym (f .answer) ∙ e))) (forward-whole p W stage end xs (before .1) x (length (before .0)) t short g)
 
-module _ (k : ℕ) (xs tw : List Float) (n t : ℕ) where
-  -- two rows for numbers, accepted
-  scanned : verdict (record { given = ltb (firstUnfit k xs) (length xs); why = Number n } ∷ record { given = ltb (firstUnfit 0 tw) (length tw); why = Twiddle t } ∷ []) ≡ Accepted → Words k xs × Words 0 tw
-  scanned e =
-      let a = accepted-by (ltb (firstUnfit k xs) (length xs)) (Number n) _ e in
-      let b = accepted-by (ltb (firstUnfit 0 tw) (length tw)) (Twiddle t) _ (a .1) in
-      (scan-words k xs (ltb-false (firstUnfit k xs) (length xs) (a .0)), scan-words 0 tw (ltb-false (firstUnfit 0 tw) (length tw) (b .0)))
+  -- inverse leaves n times the whole numbers x whose bins it is given
+  pub inverse-exact : Inverts p W stage end xs before r after → r ≡ Accepted → Short (p .n) → Small (p .n) x → IsBins (p .n) x xs → (j : ℕ) → j < p .n → IsWhole (getD (after .0) j nan) (pos (p .n) *ℤ x j)
+  inverse-exact f e short m g j l =
+      let t = invertible p W _ _ (length xs) (length (before .0)) (length (before .1)) 48 xs stage end r refl refl (f .answer) e in
+      subst (λ (s : Slices). IsWhole (getD (s .0) j nan) (pos (p .n) *ℤ x j)) (sym (settled _ _ _ _ _ f (sym (f .answer) ∙ e))) (inverse-whole p W stage end xs (before .1) x (length (before .0)) t short m g j l)
 
--- ---- a stage
+-- inverse, given the spectrum that forward left, leaves n times each sample; the two calls may differ in width, twiddles and scratch
+pub there-and-back : (p : Record) (W : ℕ) (stage end xs : List Float) (before : Slices) (r : Verdict) (spectrum : Slices) → Forwards p W stage end xs before r spectrum → r ≡ Accepted
+    → (W′ : ℕ) (stage′ end′ : List Float) (before′ : Slices) (r′ : Verdict) (after : Slices) → Inverts p W′ stage′ end′ (spectrum .0) before′ r′ after → r′ ≡ Accepted
+    → (x : ℕ → ℤ) → Short (p .n) → Samples (p .n) x xs → (j : ℕ) → j < p .n → IsWhole (getD (after .0) j nan) (pos (p .n) *ℤ x j)
+there-and-back p W stage end xs before r spectrum f e W′ stage′ end′ before′ r′ after f′ e′ x short g =
+    inverse-exact p W′ stage′ end′ (spectrum .0) before′ r′ after x f′ e′ short (g .small) (forward-exact p W stage end xs before r spectrum x f e short g)
 
--- every number that an accepted stage writes is at most 2 ^ 53
+-- ---- finite, at the customer's numbers
+
+-- a stage: numbers to 2 ^ 48 in, at most 2 ^ 53 out
 pub stage-finite : (p : Record) (j W : ℕ) (xs out tw : List Float) (r : Verdict) (ys : List Float) → Stages p j W xs out tw r ys → r ≡ Accepted → Words 53 ys
-unfolding stageOf stageVerdict
-stage-finite p j W xs out tw r ys s e =
-    let t = stage-told p j W xs out tw r ys s e in
-    let M = p .half / radix (inUse p) j in
-    let n = scanned 48 xs tw _ _ (behind (sizeRows p j W (length xs) (length out) (length tw)) (numberRows xs tw) (sym (s .answer) ∙ e)) in
-    let lent : ℕ → ℕ → ℕ → Complex = λ k. lentAt M (radix (inUse p) j) W tw in
-    let ones : 0 < j → OnesIn p j (lent j) = λ later i q li first last.
-    let below = place-lt M (radix (inUse p) j) W i q (t .width) li first last in
-    let count : M * (radix (inUse p) j - 1) ≡ twiddleCount (p .half) (p .radices) j = rw (use-radix p (t .planned) j (t .known)) (count-later p (t .planned) j (λ z. omega arith) (t .known)) in
-    cell-both 0 tw (n .1) (place M (radix (inUse p) j) W i q) (omega (arith, below, count, t .lent)) in
-    let made = stage (floats lent) (p .half) (inUse p) j (paired xs) in
-    let sized = stage-all p (t .planned) lent j 48 (t .known) (lit≤ tt) ones (paired xs) (words-cells 48 (p .half) xs (t .source) (n .0)) in
-    subst (Words 53) (sym (stage-left p j W xs out tw r ys s e)) (cells-words 53 made (λ i li. sized i (rw (stage-cells p lent j (paired xs)) at li)))
+stage-finite p j W xs out tw r ys s e = stage-within p j W xs out tw r ys s e 48 (lit≤ tt) (stage-lent-within p j W xs out tw r ys s e)
 
--- ---- power
+module _ (p : Record) (W : ℕ) (stage end xs : List Float) (before : Slices) (r : Verdict) (after : Slices) where
+  -- forward: samples to 2 ^ 32 in; each stage of the plan adds five binary digits, and the ends three
+  pub forward-finite : Forwards p W stage end xs before r after → r ≡ Accepted → Within p (32 + 5 * p .count + 3) (32 + 5 * p .count) after
+  forward-finite f e = forward-within p W stage end xs before r after f e 32 (lit≤ tt) (samples-within p W stage end xs before r after f e)
 
-module _ (xs : List Float) (w : Words 48 xs) where
-  bin-power : (n : ℕ) → 2 * n + 1 < length xs → AtMost 2 96 (powerOf (cell xs n))
-  bin-power n l =
-      add-most 14 1 1 96 (record { digits = lit≤ tt; kept = lit≤ tt; below = lit≤ tt }) _ _
-      (mul-most 14 1 1 48 48 (record { digits = lit≤ tt; kept = lit≤ tt; below = lit≤ tt }) _ _ (w (2 * n) (omega arith)) (w (2 * n) (omega arith)))
-      (mul-most 14 1 1 48 48 (record { digits = lit≤ tt; kept = lit≤ tt; below = lit≤ tt }) _ _ (w (2 * n + 1) l) (w (2 * n + 1) l))
+  -- inverse: bins to 2 ^ 48 in
+  pub inverse-finite : Inverts p W stage end xs before r after → r ≡ Accepted → Within p (48 + 3 + 5 * p .count) (48 + 3 + 5 * p .count) after
+  inverse-finite f e = inverse-within p W stage end xs before r after f e 48 (lit≤ tt) (bins-within p W stage end xs before r after f e)
 
-  power-most : (lo n : ℕ) → 2 * (lo + n) ≤ length xs → length xs ≤ 8194 → AtMost (2 * n) 96 (powerFrom xs lo n)
-  unfolding powerFrom
-  power-most lo zero l m = zero-most 0 96
-  power-most lo (suc n) l m =
-      let more : 2 * n + 2 ≡ 2 * suc n = omega arith in
-      let few : 2 * n + 2 ≤ 16384 = omega arith in
-      subst (λ (q : ℕ). AtMost q 96 (add binary32 (powerFrom xs lo n) (powerOf (cell xs (lo + n))))) more
-      (add-most 14 (2 * n) 2 96 (record { digits = few; kept = lit≤ tt; below = lit≤ tt }) _ _ (power-most lo n (omega arith) m) (bin-power (lo + n) (omega arith)))
-
--- an accepted answer has the sum
-told : (v : Verdict) (x : Float) (r : Summed) → r ≡ summed v x → r .verdict ≡ Accepted → (v ≡ Accepted) × (r .power ≡ x)
-told Accepted x r a e = (refl, ap (λ (z : Summed). z .power) a)
-told (Refused why) x r a e = absurd (differs (sym (ap (λ (z : Summed). z .verdict) a) ∙ e))
-  where
-    differs : Refused why ≡ Accepted → ⊥
-    differs f =
-        let z : _≡_ {A = ℕ} 0 1 = cc in
-        absurd (omega arith)
-
--- and numbers at most 2 ^ 48
-large : (xs : List Float) (lo hi : ℕ) → powerVerdict xs lo hi ≡ Accepted → Words 48 xs
-unfolding powerVerdict
-large xs lo hi e =
-    let a = accepted-by (not (eqb (length xs % 2) 0) || ltb (length xs) 4 || ltb 8194 (length xs)) (Length 0) _ e in
-    let b = accepted-by (ltb hi lo || not (ltb hi (length xs / 2))) Bins _ (a .1) in
-    let c = accepted-by (ltb (firstUnfit 48 xs) (length xs)) (Number (firstUnfit 48 xs)) _ (b .1) in
-    scan-words 48 xs (ltb-false (firstUnfit 48 xs) (length xs) (c .0))
-
--- the sum of an accepted call is finite, and below 2 ^ 110
+-- power: bins to 2 ^ 48 in, a sum below 2 ^ 110 out
 pub power-finite : (xs : List Float) (lo hi : ℕ) (r : Summed) → Powers xs lo hi r → r .verdict ≡ Accepted → AtMost 8194 96 (r .power)
-power-finite xs lo hi r s e =
-    let v = told (powerVerdict xs lo hi) (powerFrom xs lo (hi + 1 - lo)) r (s .answer) e in
-    let t = bins-told xs lo hi (powerVerdict xs lo hi) refl (v .0) in
-    let w = large xs lo hi (v .0) in
-    let few : 2 * (hi + 1 - lo) ≤ 8194 = omega (arith, t .1, t .2) in
-    subst (AtMost 8194 96) (sym (v .1)) (most-wider (2 * (hi + 1 - lo)) 8194 96 (powerFrom xs lo (hi + 1 - lo)) few (power-most xs w lo (hi + 1 - lo) (omega (arith, t .0, t .1)) (t .2)))
+power-finite xs lo hi r s e = power-within xs lo hi r s e
 
--- ---- forward
+-- ---- the same bits
 
--- every number that an accepted forward writes is at most 2 ^ 35 times 2 ^ 5 for each stage
-pub forward-finite : (p : Record) (W : ℕ) (stage end xs : List Float) (before : Slices) (r : Verdict) (after : Slices) → Spectra.Forwards p W stage end xs before r after → r ≡ Accepted
-    → Words (32 + 5 * p .count + 3) (after .0) × Words (32 + 5 * p .count) (dataOf (p .half) (after .1)) × (0 < p .count → Words (32 + 5 * p .count) (padOf (p .half) (after .1)))
-unfolding Spectra.lentVerdict
-forward-finite p W stage end xs before r after f e =
-    let t = forwardable p W _ _ (length xs) (length (before .0)) (length (before .1)) 32 xs stage end r refl refl (f .answer) e in
-    let n = scanned 32 xs (stage ++ end) _ _
-    (behind (Spectra.sizeRows p W (eqb (length xs) (p .n)) (eqb (length (before .0)) (Spectra.binWords p)) (length (before .1)) (length stage) (length end)) (Spectra.numberRows 32 xs stage end) (sym (f .answer) ∙ e)) in
-    let ws = front-words 0 stage end (n .1) in
-    let we = back-words 0 stage end (n .1) in
-    let scratch = forward-scratch p W 32 stage end xs (before .1) (length (before .0)) t (lit≤ tt) (n .0) ws we in
-    subst (λ (s : Slices). Words (32 + 5 * p .count + 3) (s .0) × Words (32 + 5 * p .count) (dataOf (p .half) (s .1)) × (0 < p .count → Words (32 + 5 * p .count) (padOf (p .half) (s .1))))
-    (sym (settled _ _ _ _ _ f (sym (f .answer) ∙ e)))
-    (forward-words p W 32 stage end xs (before .1) (length (before .0)) t (lit≤ tt) (n .0) ws we, scratch .0, scratch .1)
+-- a stage writes all of its output
+pub stage-bits : (p : Record) (j W : ℕ) (xs out tw : List Float) (r r′ : Verdict) (ys ys′ : List Float)
+    → Stages p j W xs out tw r ys → Stages p j W xs out tw r′ ys′ → r ≡ Accepted → SameBits ys ys′
+stage-bits p j W xs out tw r r′ ys ys′ s s′ e = same-bits 53 ys ys′ (stage-finite p j W xs out tw r ys s e) (Stages-one p j W xs out tw s s′ .1)
 
--- ---- inverse
+-- the words that a direction writes: the output, Data and, where there is a stage, the Scratchpad
+abbrev pub SameWritten : Record → Slices → Slices → Type 0
+SameWritten p s s′ = SameBits (s .0) (s′ .0) × SameBits (dataOf (p .half) (s .1)) (dataOf (p .half) (s′ .1)) × (0 < p .count → SameBits (padOf (p .half) (s .1)) (padOf (p .half) (s′ .1)))
 
--- every number that an accepted inverse writes is at most 2 ^ 51 times 2 ^ 5 for each stage
-pub inverse-finite : (p : Record) (W : ℕ) (stage end xs : List Float) (before : Slices) (r : Verdict) (after : Slices) → Spectra.Inverts p W stage end xs before r after → r ≡ Accepted
-    → Words (48 + 3 + 5 * p .count) (after .0) × Words (48 + 3 + 5 * p .count) (dataOf (p .half) (after .1)) × (0 < p .count → Words (48 + 3 + 5 * p .count) (padOf (p .half) (after .1)))
-unfolding Spectra.lentVerdict
-inverse-finite p W stage end xs before r after f e =
-    let t = invertible p W _ _ (length xs) (length (before .0)) (length (before .1)) 48 xs stage end r refl refl (f .answer) e in
-    let n = scanned 48 xs (stage ++ end) _ _
-    (behind (Spectra.sizeRows p W (eqb (length xs) (Spectra.binWords p)) (not (ltb (length (before .0)) (p .n))) (length (before .1)) (length stage) (length end)) (Spectra.numberRows 48 xs stage end) (sym (f .answer) ∙ e)) in
-    let ws = front-words 0 stage end (n .1) in
-    let we = back-words 0 stage end (n .1) in
-    let scratch = inverse-scratch p W 48 stage end xs (before .1) (length (before .0)) t (lit≤ tt) (n .0) ws we in
-    subst (λ (s : Slices). Words (48 + 3 + 5 * p .count) (s .0) × Words (48 + 3 + 5 * p .count) (dataOf (p .half) (s .1)) × (0 < p .count → Words (48 + 3 + 5 * p .count) (padOf (p .half) (s .1))))
-    (sym (settled _ _ _ _ _ f (sym (f .answer) ∙ e)))
-    (inverse-words p W 48 stage end xs (before .1) (length (before .0)) t (lit≤ tt) (n .0) ws we, scratch .0, scratch .1)
+written : (p : Record) (k l : ℕ) (s s′ : Slices) → Within p k l s → s ≡ s′ → SameWritten p s s′
+written p k l s s′ w e = (
+  same-bits k (s .0) (s′ .0) (w .0) (ap (λ (z : Slices). z .0) e),
+  same-bits l (dataOf (p .half) (s .1)) (dataOf (p .half) (s′ .1)) (w .1) (ap (λ (z : Slices). dataOf (p .half) (z .1)) e),
+  λ some. same-bits l (padOf (p .half) (s .1)) (padOf (p .half) (s′ .1)) (w .2 some) (ap (λ (z : Slices). padOf (p .half) (z .1)) e),
+)
+
+module _ (p : Record) (W : ℕ) (stage end xs : List Float) (before : Slices) (r r′ : Verdict) (after after′ : Slices) where
+  pub forward-bits : Forwards p W stage end xs before r after → Forwards p W stage end xs before r′ after′ → r ≡ Accepted → SameWritten p after after′
+  forward-bits f g e = written p _ _ after after′ (forward-finite p W stage end xs before r after f e) (Forwards-one p W stage end xs before f g .1)
+
+  pub inverse-bits : Inverts p W stage end xs before r after → Inverts p W stage end xs before r′ after′ → r ≡ Accepted → SameWritten p after after′
+  inverse-bits f g e = written p _ _ after after′ (inverse-finite p W stage end xs before r after f e) (Inverts-one p W stage end xs before f g .1)
+
+-- and the bits of the sum that power answers
+pub power-bits : (xs : List Float) (lo hi : ℕ) (r r′ : Summed) → Powers xs lo hi r → Powers xs lo hi r′ → r .verdict ≡ Accepted → (b c : ℕ) → Holds b (r .power) → Holds c (r′ .power) → b ≡ c
+power-bits xs lo hi r r′ s s′ e b c h g =
+    same-word 8194 96 b c (r .power) (power-finite xs lo hi r s e) h (subst (λ (z : Summed). Holds c (z .power)) (Powers-one xs lo hi s′ s) g)

@@ -1,1 +1,1 @@
-// How large floats can grow: definitions and laws.
+// How large floats can grow, and where they are exact: definitions and laws.

@@ -1,0 +1,173 @@
+-- What an accepted call of `stage`, `forward` or `inverse` writes, and what `power` answers, has a size: the bound on the numbers lent is a parameter.
+-- A stage adds five binary digits at most, the steps at the ends three; where a plan has no stage the Scratchpad is not written. Assumes nothing.
+use mathlib.Core.Path.{_≡_, refl, sym, ap, _∙_, subst}
+use mathlib.Core.Bool.{not, _||_}
+use mathlib.Core.List.{List, [], _∷_, _++_}
+use Prim.Native.Nat.{ℕ, zero, suc, _+_, _-_, _*_, _/_, _%_, _≤_, _<_}
+use native.Mathlib.Omega.{arith}
+use lib.Dec.{eqb, ltb, lit≤}
+use lib.Ieee.{Float, binary32, add}
+use lib.ListN.{length}
+use borrow.Author.Tests.{ltb-false}
+use Rattle.refusal.specs.Refusal.{Row, verdict}
+use Rattle.refusal.specs.declared.Refusal.the-variants.{Length, Number, Twiddle, Bins}
+use Rattle.refusal.specs.declared.Verdict.{Verdict}
+use Rattle.refusal.specs.declared.Verdict.the-variants.{Accepted, Refused}
+use Rattle.refusal.proofs.Rows.{accepted-by, settled}
+use Rattle.plan.specs.Counts.{radix, twiddleCount}
+use Rattle.plan.specs.declared.Record.{Record}
+use Rattle.plan.proofs.Counts.{count-later}
+use Rattle.schedule.specs.Plans.{inUse}
+use Rattle.schedule.specs.Stage.{stage}
+use Rattle.schedule.proofs.Plans.{use-radix}
+use Rattle.twiddle.specs.Places.{place}
+use Rattle.floats.specs.Complexes.{cell, paired}
+use Rattle.floats.specs.Scan.{firstUnfit}
+use Rattle.floats.specs.declared.complex.Complex.{Complex}
+use Rattle.kernel.specs.Floats.{floats, lentAt, stageOf}
+use Rattle.kernel.proofs.Widths.{place-lt}
+use Rattle.stage.specs.Calls.{Stages, stageVerdict, sizeRows, numberRows}
+use Rattle.stage.proofs.Theorems.{stage-told, stage-left}
+use Rattle.spectrum.specs.Calls as Spectra
+use Rattle.spectrum.specs.Power.{powerOf, powerFrom, powerVerdict, Powers, summed}
+use Rattle.spectrum.specs.Transforms.{Slices, dataOf, padOf}
+use Rattle.spectrum.specs.declared.Summed.{Summed}
+use Rattle.spectrum.proofs.Sums.{bins-told}
+use Rattle.spectrum.proofs.Verdicts.{forwardable, invertible}
+use Rattle.finite.specs.Sizes.{AtMost}
+use Rattle.finite.proofs.Ends.{zero-most}
+use Rattle.finite.proofs.Sizes.{add-most, mul-most, most-wider}
+use Rattle.finite.proofs.Stages.{OnesIn, stage-all}
+use Rattle.finite.proofs.Words.{Words, scan-words, cell-both, words-cells, cells-words, stage-cells}
+use Rattle.finite.proofs.Transforms.{front-words, back-words, forward-words, forward-scratch, inverse-words, inverse-scratch}
+
+-- ---- what an accepted call tells of its numbers
+
+-- rows that are accepted behind others
+behind : (rows more : List Row) → verdict (rows ++ more) ≡ Accepted → verdict more ≡ Accepted
+behind [] more e = e
+behind (row ∷ rows) more e = behind rows more (accepted-by (row .given) (row .why) (verdict (rows ++ more)) e .1)
+
+module _ (k : ℕ) (xs tw : List Float) (n t : ℕ) where
+  -- two rows for numbers, accepted
+  scanned : verdict (record { given = ltb (firstUnfit k xs) (length xs); why = Number n } ∷ record { given = ltb (firstUnfit 0 tw) (length tw); why = Twiddle t } ∷ []) ≡ Accepted → Words k xs × Words 0 tw
+  scanned e =
+      let a = accepted-by (ltb (firstUnfit k xs) (length xs)) (Number n) _ e in
+      let b = accepted-by (ltb (firstUnfit 0 tw) (length tw)) (Twiddle t) _ (a .1) in
+      (scan-words k xs (ltb-false (firstUnfit k xs) (length xs) (a .0)), scan-words 0 tw (ltb-false (firstUnfit 0 tw) (length tw) (b .0)))
+
+-- ---- a stage
+
+module _ (p : Record) (j W : ℕ) (xs out tw : List Float) (r : Verdict) (ys : List Float) (s : Stages p j W xs out tw r ys) (e : r ≡ Accepted) where
+  stage-scanned : Words 48 xs × Words 0 tw
+  unfolding stageVerdict
+  stage-scanned = scanned 48 xs tw _ _ (behind (sizeRows p j W (length xs) (length out) (length tw)) (numberRows xs tw) (sym (s .answer) ∙ e))
+
+  -- its input has at most 2 ^ 48
+  pub stage-lent-within : Words 48 xs
+  stage-lent-within = stage-scanned .0
+
+  pub stage-within : (k : ℕ) → k ≤ 121 → Words k xs → Words (k + 5) ys
+  unfolding stageOf
+  stage-within k few w =
+      let t = stage-told p j W xs out tw r ys s e in
+      let M = p .half / radix (inUse p) j in
+      let lent : ℕ → ℕ → ℕ → Complex = λ n. lentAt M (radix (inUse p) j) W tw in
+      let ones : 0 < j → OnesIn p j (lent j) = λ later i q li first last.
+      let below = place-lt M (radix (inUse p) j) W i q (t .width) li first last in
+      let count : M * (radix (inUse p) j - 1) ≡ twiddleCount (p .half) (p .radices) j = rw (use-radix p (t .planned) j (t .known)) (count-later p (t .planned) j (λ z. omega arith) (t .known)) in
+      cell-both 0 tw (stage-scanned .1) (place M (radix (inUse p) j) W i q) (omega (arith, below, count, t .lent)) in
+      let made = stage (floats lent) (p .half) (inUse p) j (paired xs) in
+      let sized = stage-all p (t .planned) lent j k (t .known) few ones (paired xs) (words-cells k (p .half) xs (t .source) w) in
+      subst (Words (k + 5)) (sym (stage-left p j W xs out tw r ys s e)) (cells-words (k + 5) made (λ i li. sized i (rw (stage-cells p lent j (paired xs)) at li)))
+
+-- ---- power
+
+module _ (xs : List Float) (w : Words 48 xs) where
+  bin-power : (n : ℕ) → 2 * n + 1 < length xs → AtMost 2 96 (powerOf (cell xs n))
+  bin-power n l =
+      add-most 14 1 1 96 (record { digits = lit≤ tt; kept = lit≤ tt; below = lit≤ tt }) _ _
+      (mul-most 14 1 1 48 48 (record { digits = lit≤ tt; kept = lit≤ tt; below = lit≤ tt }) _ _ (w (2 * n) (omega arith)) (w (2 * n) (omega arith)))
+      (mul-most 14 1 1 48 48 (record { digits = lit≤ tt; kept = lit≤ tt; below = lit≤ tt }) _ _ (w (2 * n + 1) l) (w (2 * n + 1) l))
+
+  power-most : (lo n : ℕ) → 2 * (lo + n) ≤ length xs → length xs ≤ 8194 → AtMost (2 * n) 96 (powerFrom xs lo n)
+  unfolding powerFrom
+  power-most lo zero l m = zero-most 0 96
+  power-most lo (suc n) l m =
+      let more : 2 * n + 2 ≡ 2 * suc n = omega arith in
+      let few : 2 * n + 2 ≤ 16384 = omega arith in
+      subst (λ (q : ℕ). AtMost q 96 (add binary32 (powerFrom xs lo n) (powerOf (cell xs (lo + n))))) more
+      (add-most 14 (2 * n) 2 96 (record { digits = few; kept = lit≤ tt; below = lit≤ tt }) _ _ (power-most lo n (omega arith) m) (bin-power (lo + n) (omega arith)))
+
+-- an accepted answer has the sum
+told : (v : Verdict) (x : Float) (r : Summed) → r ≡ summed v x → r .verdict ≡ Accepted → (v ≡ Accepted) × (r .power ≡ x)
+told Accepted x r a e = (refl, ap (λ (z : Summed). z .power) a)
+told (Refused why) x r a e = absurd (differs (sym (ap (λ (z : Summed). z .verdict) a) ∙ e))
+  where
+    differs : Refused why ≡ Accepted → ⊥
+    differs f =
+        let z : _≡_ {A = ℕ} 0 1 = cc in
+        absurd (omega arith)
+
+-- and numbers at most 2 ^ 48
+large : (xs : List Float) (lo hi : ℕ) → powerVerdict xs lo hi ≡ Accepted → Words 48 xs
+unfolding powerVerdict
+large xs lo hi e =
+    let a = accepted-by (not (eqb (length xs % 2) 0) || ltb (length xs) 4 || ltb 8194 (length xs)) (Length 0) _ e in
+    let b = accepted-by (ltb hi lo || not (ltb hi (length xs / 2))) Bins _ (a .1) in
+    let c = accepted-by (ltb (firstUnfit 48 xs) (length xs)) (Number (firstUnfit 48 xs)) _ (b .1) in
+    scan-words 48 xs (ltb-false (firstUnfit 48 xs) (length xs) (c .0))
+
+-- the sum of an accepted call
+pub power-within : (xs : List Float) (lo hi : ℕ) (r : Summed) → Powers xs lo hi r → r .verdict ≡ Accepted → AtMost 8194 96 (r .power)
+power-within xs lo hi r s e =
+    let v = told (powerVerdict xs lo hi) (powerFrom xs lo (hi + 1 - lo)) r (s .answer) e in
+    let t = bins-told xs lo hi (powerVerdict xs lo hi) refl (v .0) in
+    let w = large xs lo hi (v .0) in
+    let few : 2 * (hi + 1 - lo) ≤ 8194 = omega (arith, t .1, t .2) in
+    subst (AtMost 8194 96) (sym (v .1)) (most-wider (2 * (hi + 1 - lo)) 8194 96 (powerFrom xs lo (hi + 1 - lo)) few (power-most xs w lo (hi + 1 - lo) (omega (arith, t .0, t .1)) (t .2)))
+
+-- ---- both directions
+
+-- a bound on the output, and one on Data and, where there is a stage, on the Scratchpad
+abbrev pub Within : Record → (out scratch : ℕ) → Slices → Type 0
+Within p out scratch s = Words out (s .0) × Words scratch (dataOf (p .half) (s .1)) × (0 < p .count → Words scratch (padOf (p .half) (s .1)))
+
+module _ (p : Record) (W : ℕ) (stage end xs : List Float) (before : Slices) (r : Verdict) (after : Slices) where
+  module _ (f : Spectra.Forwards p W stage end xs before r after) (e : r ≡ Accepted) where
+    forward-scanned : Words 32 xs × Words 0 (stage ++ end)
+    unfolding Spectra.lentVerdict
+    forward-scanned = scanned 32 xs (stage ++ end) _ _
+        (behind (Spectra.sizeRows p W (eqb (length xs) (p .n)) (eqb (length (before .0)) (Spectra.binWords p)) (length (before .1)) (length stage) (length end)) (Spectra.numberRows 32 xs stage end) (sym (f .answer) ∙ e))
+
+    -- its samples have at most 2 ^ 32
+    pub samples-within : Words 32 xs
+    samples-within = forward-scanned .0
+
+    pub forward-within : (k : ℕ) → k ≤ 56 → Words k xs → Within p (k + 5 * p .count + 3) (k + 5 * p .count) after
+    forward-within k few w =
+        let t = forwardable p W _ _ (length xs) (length (before .0)) (length (before .1)) 32 xs stage end r refl refl (f .answer) e in
+        let ws = front-words 0 stage end (forward-scanned .1) in
+        let we = back-words 0 stage end (forward-scanned .1) in
+        let scratch = forward-scratch p W k stage end xs (before .1) (length (before .0)) t few w ws we in
+        subst (Within p (k + 5 * p .count + 3) (k + 5 * p .count)) (sym (settled _ _ _ _ _ f (sym (f .answer) ∙ e)))
+        (forward-words p W k stage end xs (before .1) (length (before .0)) t few w ws we, scratch .0, scratch .1)
+
+  module _ (f : Spectra.Inverts p W stage end xs before r after) (e : r ≡ Accepted) where
+    inverse-scanned : Words 48 xs × Words 0 (stage ++ end)
+    unfolding Spectra.lentVerdict
+    inverse-scanned = scanned 48 xs (stage ++ end) _ _
+        (behind (Spectra.sizeRows p W (eqb (length xs) (Spectra.binWords p)) (not (ltb (length (before .0)) (p .n))) (length (before .1)) (length stage) (length end)) (Spectra.numberRows 48 xs stage end) (sym (f .answer) ∙ e))
+
+    -- its bins have numbers of at most 2 ^ 48
+    pub bins-within : Words 48 xs
+    bins-within = inverse-scanned .0
+
+    pub inverse-within : (k : ℕ) → k ≤ 53 → Words k xs → Within p (k + 3 + 5 * p .count) (k + 3 + 5 * p .count) after
+    inverse-within k few w =
+        let t = invertible p W _ _ (length xs) (length (before .0)) (length (before .1)) 48 xs stage end r refl refl (f .answer) e in
+        let ws = front-words 0 stage end (inverse-scanned .1) in
+        let we = back-words 0 stage end (inverse-scanned .1) in
+        let scratch = inverse-scratch p W k stage end xs (before .1) (length (before .0)) t few w ws we in
+        subst (Within p (k + 3 + 5 * p .count) (k + 3 + 5 * p .count)) (sym (settled _ _ _ _ _ f (sym (f .answer) ∙ e)))
+        (inverse-words p W k stage end xs (before .1) (length (before .0)) t few w ws we, scratch .0, scratch .1)
