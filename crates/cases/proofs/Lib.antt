@@ -1,0 +1,3 @@
+-- The theorems, by subject.
+pub mod Cases
+pub mod ShutOut
