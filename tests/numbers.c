@@ -173,7 +173,7 @@ static void direction(struct planned p, size_t width, int back, enum signs numbe
                                                                                 stage, p.stage, end, p.end);
     check(a.number == 0 && a.place == 0, name, n, "accepted");
     check(within(output, out, power_of_two(back ? bits : bits + 3)), name, n, "every word of the output");
-    check(within(scratch, p.plan.count > 0 ? 2 * n : n, power_of_two(bits)), name, n, "every word written in the scratch");
+    check(within(scratch, back || p.plan.count > 0 ? 2 * n : n, power_of_two(bits)), name, n, "every word written in the scratch");
 }
 
 /* Every stage by itself: what it writes is at most 2^53. */

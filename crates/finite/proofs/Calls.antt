@@ -1,5 +1,5 @@
 -- What an accepted call of `stage`, `forward` or `inverse` writes, and what `power` answers, has a size: the bound on the numbers lent is a parameter.
--- A stage adds five binary digits at most, the steps at the ends three; where a plan has no stage the Scratchpad is not written. Assumes nothing.
+-- A stage adds five binary digits at most, the steps at the ends three; where a plan has no stage forward does not write the Scratchpad. Assumes nothing.
 use mathlib.Core.Path.{_≡_, refl, sym, ap, _∙_, subst}
 use mathlib.Core.Bool.{not, _||_}
 use mathlib.Core.List.{List, [], _∷_, _++_}
@@ -83,21 +83,21 @@ module _ (p : Record) (j W : ℕ) (xs out tw : List Float) (r : Verdict) (ys : L
 
 -- ---- power
 
-module _ (xs : List Float) (w : Words 48 xs) where
-  bin-power : (n : ℕ) → 2 * n + 1 < length xs → AtMost 2 96 (powerOf (cell xs n))
+module _ (xs : List Float) (k : ℕ) (few : k ≤ 56) (w : Words k xs) where
+  bin-power : (n : ℕ) → 2 * n + 1 < length xs → AtMost 2 (k + k) (powerOf (cell xs n))
   bin-power n l =
-      add-most 14 1 1 96 (record { digits = lit≤ tt; kept = lit≤ tt; below = lit≤ tt }) _ _
-      (mul-most 14 1 1 48 48 (record { digits = lit≤ tt; kept = lit≤ tt; below = lit≤ tt }) _ _ (w (2 * n) (omega arith)) (w (2 * n) (omega arith)))
-      (mul-most 14 1 1 48 48 (record { digits = lit≤ tt; kept = lit≤ tt; below = lit≤ tt }) _ _ (w (2 * n + 1) l) (w (2 * n + 1) l))
+      add-most 14 1 1 (k + k) (record { digits = lit≤ tt; kept = lit≤ tt; below = omega arith }) _ _
+      (mul-most 14 1 1 k k (record { digits = lit≤ tt; kept = lit≤ tt; below = omega arith }) _ _ (w (2 * n) (omega arith)) (w (2 * n) (omega arith)))
+      (mul-most 14 1 1 k k (record { digits = lit≤ tt; kept = lit≤ tt; below = omega arith }) _ _ (w (2 * n + 1) l) (w (2 * n + 1) l))
 
-  power-most : (lo n : ℕ) → 2 * (lo + n) ≤ length xs → length xs ≤ 8194 → AtMost (2 * n) 96 (powerFrom xs lo n)
+  power-most : (lo n : ℕ) → 2 * (lo + n) ≤ length xs → length xs ≤ 8194 → AtMost (2 * n) (k + k) (powerFrom xs lo n)
   unfolding powerFrom
-  power-most lo zero l m = zero-most 0 96
+  power-most lo zero l m = zero-most 0 (k + k)
   power-most lo (suc n) l m =
       let more : 2 * n + 2 ≡ 2 * suc n = omega arith in
-      let few : 2 * n + 2 ≤ 16384 = omega arith in
-      subst (λ (q : ℕ). AtMost q 96 (add binary32 (powerFrom xs lo n) (powerOf (cell xs (lo + n))))) more
-      (add-most 14 (2 * n) 2 96 (record { digits = few; kept = lit≤ tt; below = lit≤ tt }) _ _ (power-most lo n (omega arith) m) (bin-power (lo + n) (omega arith)))
+      let digits : 2 * n + 2 ≤ 16384 = omega arith in
+      subst (λ (q : ℕ). AtMost q (k + k) (add binary32 (powerFrom xs lo n) (powerOf (cell xs (lo + n))))) more
+      (add-most 14 (2 * n) 2 (k + k) (record { digits = digits; kept = lit≤ tt; below = omega arith }) _ _ (power-most lo n (omega arith) m) (bin-power (lo + n) (omega arith)))
 
 -- an accepted answer has the sum
 told : (v : Verdict) (x : Float) (r : Summed) → r ≡ summed v x → r .verdict ≡ Accepted → (v ≡ Accepted) × (r .power ≡ x)
@@ -109,29 +109,31 @@ told (Refused why) x r a e = absurd (differs (sym (ap (λ (z : Summed). z .verdi
         let z : _≡_ {A = ℕ} 0 1 = cc in
         absurd (omega arith)
 
--- and numbers at most 2 ^ 48
-large : (xs : List Float) (lo hi : ℕ) → powerVerdict xs lo hi ≡ Accepted → Words 48 xs
-unfolding powerVerdict
-large xs lo hi e =
-    let a = accepted-by (not (eqb (length xs % 2) 0) || ltb (length xs) 4 || ltb 8194 (length xs)) (Length 0) _ e in
-    let b = accepted-by (ltb hi lo || not (ltb hi (length xs / 2))) Bins _ (a .1) in
-    let c = accepted-by (ltb (firstUnfit 48 xs) (length xs)) (Number (firstUnfit 48 xs)) _ (b .1) in
-    scan-words 48 xs (ltb-false (firstUnfit 48 xs) (length xs) (c .0))
+module _ (xs : List Float) (lo hi : ℕ) (r : Summed) (s : Powers xs lo hi r) (e : r .verdict ≡ Accepted) where
+  summing : (powerVerdict xs lo hi ≡ Accepted) × (r .power ≡ powerFrom xs lo (hi + 1 - lo))
+  summing = told (powerVerdict xs lo hi) (powerFrom xs lo (hi + 1 - lo)) r (s .answer) e
 
--- the sum of an accepted call
-pub power-within : (xs : List Float) (lo hi : ℕ) (r : Summed) → Powers xs lo hi r → r .verdict ≡ Accepted → AtMost 8194 96 (r .power)
-power-within xs lo hi r s e =
-    let v = told (powerVerdict xs lo hi) (powerFrom xs lo (hi + 1 - lo)) r (s .answer) e in
-    let t = bins-told xs lo hi (powerVerdict xs lo hi) refl (v .0) in
-    let w = large xs lo hi (v .0) in
-    let few : 2 * (hi + 1 - lo) ≤ 8194 = omega (arith, t .1, t .2) in
-    subst (AtMost 8194 96) (sym (v .1)) (most-wider (2 * (hi + 1 - lo)) 8194 96 (powerFrom xs lo (hi + 1 - lo)) few (power-most xs w lo (hi + 1 - lo) (omega (arith, t .0, t .1)) (t .2)))
+  -- its bins have numbers of at most 2 ^ 48
+  pub summed-within : Words 48 xs
+  unfolding powerVerdict
+  summed-within =
+      let a = accepted-by (not (eqb (length xs % 2) 0) || ltb (length xs) 4 || ltb 8194 (length xs)) (Length 0) _ (summing .0) in
+      let b = accepted-by (ltb hi lo || not (ltb hi (length xs / 2))) Bins _ (a .1) in
+      let c = accepted-by (ltb (firstUnfit 48 xs) (length xs)) (Number (firstUnfit 48 xs)) _ (b .1) in
+      scan-words 48 xs (ltb-false (firstUnfit 48 xs) (length xs) (c .0))
+
+  pub power-within : (k : ℕ) → k ≤ 56 → Words k xs → AtMost 8194 (k + k) (r .power)
+  power-within k few w =
+      let t = bins-told xs lo hi (powerVerdict xs lo hi) refl (summing .0) in
+      let n = hi + 1 - lo in
+      let words : 2 * n ≤ 8194 = omega (arith, t .1, t .2) in
+      subst (AtMost 8194 (k + k)) (sym (summing .1)) (most-wider (2 * n) 8194 (k + k) (powerFrom xs lo n) words (power-most xs k few w lo n (omega (arith, t .0, t .1)) (t .2)))
 
 -- ---- both directions
 
--- a bound on the output, and one on Data and, where there is a stage, on the Scratchpad
-abbrev pub Within : Record → (out scratch : ℕ) → Slices → Type 0
-Within p out scratch s = Words out (s .0) × Words scratch (dataOf (p .half) (s .1)) × (0 < p .count → Words scratch (padOf (p .half) (s .1)))
+-- a bound on the output, and one on Data and, where there are at least so many stages, on the Scratchpad
+abbrev pub Within : (stages : ℕ) → Record → (out scratch : ℕ) → Slices → Type 0
+Within stages p out scratch s = Words out (s .0) × Words scratch (dataOf (p .half) (s .1)) × (stages ≤ p .count → Words scratch (padOf (p .half) (s .1)))
 
 module _ (p : Record) (W : ℕ) (stage end xs : List Float) (before : Slices) (r : Verdict) (after : Slices) where
   module _ (f : Spectra.Forwards p W stage end xs before r after) (e : r ≡ Accepted) where
@@ -144,13 +146,13 @@ module _ (p : Record) (W : ℕ) (stage end xs : List Float) (before : Slices) (r
     pub samples-within : Words 32 xs
     samples-within = forward-scanned .0
 
-    pub forward-within : (k : ℕ) → k ≤ 56 → Words k xs → Within p (k + 5 * p .count + 3) (k + 5 * p .count) after
+    pub forward-within : (k : ℕ) → k ≤ 56 → Words k xs → Within 1 p (k + 5 * p .count + 3) (k + 5 * p .count) after
     forward-within k few w =
         let t = forwardable p W _ _ (length xs) (length (before .0)) (length (before .1)) 32 xs stage end r refl refl (f .answer) e in
         let ws = front-words 0 stage end (forward-scanned .1) in
         let we = back-words 0 stage end (forward-scanned .1) in
         let scratch = forward-scratch p W k stage end xs (before .1) (length (before .0)) t few w ws we in
-        subst (Within p (k + 5 * p .count + 3) (k + 5 * p .count)) (sym (settled _ _ _ _ _ f (sym (f .answer) ∙ e)))
+        subst (Within 1 p (k + 5 * p .count + 3) (k + 5 * p .count)) (sym (settled _ _ _ _ _ f (sym (f .answer) ∙ e)))
         (forward-words p W k stage end xs (before .1) (length (before .0)) t few w ws we, scratch .0, scratch .1)
 
   module _ (f : Spectra.Inverts p W stage end xs before r after) (e : r ≡ Accepted) where
@@ -163,11 +165,11 @@ module _ (p : Record) (W : ℕ) (stage end xs : List Float) (before : Slices) (r
     pub bins-within : Words 48 xs
     bins-within = inverse-scanned .0
 
-    pub inverse-within : (k : ℕ) → k ≤ 53 → Words k xs → Within p (k + 3 + 5 * p .count) (k + 3 + 5 * p .count) after
+    pub inverse-within : (k : ℕ) → k ≤ 53 → Words k xs → Within 0 p (k + 3 + 5 * p .count) (k + 3 + 5 * p .count) after
     inverse-within k few w =
         let t = invertible p W _ _ (length xs) (length (before .0)) (length (before .1)) 48 xs stage end r refl refl (f .answer) e in
         let ws = front-words 0 stage end (inverse-scanned .1) in
         let we = back-words 0 stage end (inverse-scanned .1) in
         let scratch = inverse-scratch p W k stage end xs (before .1) (length (before .0)) t few w ws we in
-        subst (Within p (k + 3 + 5 * p .count) (k + 3 + 5 * p .count)) (sym (settled _ _ _ _ _ f (sym (f .answer) ∙ e)))
-        (inverse-words p W k stage end xs (before .1) (length (before .0)) t few w ws we, scratch .0, scratch .1)
+        subst (Within 0 p (k + 3 + 5 * p .count) (k + 3 + 5 * p .count)) (sym (settled _ _ _ _ _ f (sym (f .answer) ∙ e)))
+        (inverse-words p W k stage end xs (before .1) (length (before .0)) t few w ws we, scratch .0, λ any. scratch .1)

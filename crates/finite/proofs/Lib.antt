@@ -6,6 +6,7 @@ pub mod Words
 pub mod Bits
 pub mod Ends
 pub mod Transforms
+pub mod Fillings
 pub mod Calls
 pub mod Whole
 pub mod Exact

@@ -13,6 +13,9 @@ use Rattle.refusal.specs.declared.Verdict.{Verdict}
 use Rattle.refusal.specs.declared.Verdict.the-variants.{Accepted}
 use Rattle.refusal.proofs.Rows.{settled}
 use Rattle.plan.specs.declared.Record.{Record}
+use Rattle.twiddle.specs.Calls.{Fills}
+use Rattle.twiddle.specs.declared.inner.ends.Direction.{Direction}
+use Rattle.twiddle.proofs.Unique.{Fills-one}
 use Rattle.stage.specs.Calls.{Stages}
 use Rattle.stage.proofs.Unique.{Stages-one}
 use Rattle.spectrum.specs.Calls.{Forwards, Inverts}
@@ -25,8 +28,9 @@ use Rattle.finite.specs.Bits.{Holds, SameBits}
 use Rattle.finite.specs.Sizes.{AtMost}
 use Rattle.finite.specs.Whole.{IsWhole, Short, Small, Samples, IsBins}
 use Rattle.finite.proofs.Bits.{same-word, same-bits}
-use Rattle.finite.proofs.Calls.{Within, stage-lent-within, stage-within, power-within, samples-within, forward-within, bins-within, inverse-within}
+use Rattle.finite.proofs.Calls.{Within, stage-lent-within, stage-within, summed-within, power-within, samples-within, forward-within, bins-within, inverse-within}
 use Rattle.finite.proofs.Exact.{forward-whole, inverse-whole}
+use Rattle.finite.proofs.Fillings.{filled-ones}
 use Rattle.finite.proofs.Words.{Words}
 
 -- ---- exact, at lengths 2 and 4
@@ -59,16 +63,16 @@ stage-finite p j W xs out tw r ys s e = stage-within p j W xs out tw r ys s e 48
 
 module _ (p : Record) (W : ℕ) (stage end xs : List Float) (before : Slices) (r : Verdict) (after : Slices) where
   -- forward: samples to 2 ^ 32 in; each stage of the plan adds five binary digits, and the ends three
-  pub forward-finite : Forwards p W stage end xs before r after → r ≡ Accepted → Within p (32 + 5 * p .count + 3) (32 + 5 * p .count) after
+  pub forward-finite : Forwards p W stage end xs before r after → r ≡ Accepted → Within 1 p (32 + 5 * p .count + 3) (32 + 5 * p .count) after
   forward-finite f e = forward-within p W stage end xs before r after f e 32 (lit≤ tt) (samples-within p W stage end xs before r after f e)
 
   -- inverse: bins to 2 ^ 48 in
-  pub inverse-finite : Inverts p W stage end xs before r after → r ≡ Accepted → Within p (48 + 3 + 5 * p .count) (48 + 3 + 5 * p .count) after
+  pub inverse-finite : Inverts p W stage end xs before r after → r ≡ Accepted → Within 0 p (48 + 3 + 5 * p .count) (48 + 3 + 5 * p .count) after
   inverse-finite f e = inverse-within p W stage end xs before r after f e 48 (lit≤ tt) (bins-within p W stage end xs before r after f e)
 
 -- power: bins to 2 ^ 48 in, a sum below 2 ^ 110 out
 pub power-finite : (xs : List Float) (lo hi : ℕ) (r : Summed) → Powers xs lo hi r → r .verdict ≡ Accepted → AtMost 8194 96 (r .power)
-power-finite xs lo hi r s e = power-within xs lo hi r s e
+power-finite xs lo hi r s e = power-within xs lo hi r s e 48 (lit≤ tt) (summed-within xs lo hi r s e)
 
 -- ---- the same bits
 
@@ -77,23 +81,34 @@ pub stage-bits : (p : Record) (j W : ℕ) (xs out tw : List Float) (r r′ : Ver
     → Stages p j W xs out tw r ys → Stages p j W xs out tw r′ ys′ → r ≡ Accepted → SameBits ys ys′
 stage-bits p j W xs out tw r r′ ys ys′ s s′ e = same-bits 53 ys ys′ (stage-finite p j W xs out tw r ys s e) (Stages-one p j W xs out tw s s′ .1)
 
--- the words that a direction writes: the output, Data and, where there is a stage, the Scratchpad
-abbrev pub SameWritten : Record → Slices → Slices → Type 0
-SameWritten p s s′ = SameBits (s .0) (s′ .0) × SameBits (dataOf (p .half) (s .1)) (dataOf (p .half) (s′ .1)) × (0 < p .count → SameBits (padOf (p .half) (s .1)) (padOf (p .half) (s′ .1)))
+-- the words that a direction writes: the output, Data and, where there are at least so many stages, the Scratchpad
+abbrev pub SameWritten : (stages : ℕ) → Record → Slices → Slices → Type 0
+SameWritten stages p s s′ =
+    SameBits (s .0) (s′ .0) × SameBits (dataOf (p .half) (s .1)) (dataOf (p .half) (s′ .1)) × (stages ≤ p .count → SameBits (padOf (p .half) (s .1)) (padOf (p .half) (s′ .1)))
 
-written : (p : Record) (k l : ℕ) (s s′ : Slices) → Within p k l s → s ≡ s′ → SameWritten p s s′
-written p k l s s′ w e = (
+written : (stages : ℕ) (p : Record) (k l : ℕ) (s s′ : Slices) → Within stages p k l s → s ≡ s′ → SameWritten stages p s s′
+written stages p k l s s′ w e = (
   same-bits k (s .0) (s′ .0) (w .0) (ap (λ (z : Slices). z .0) e),
   same-bits l (dataOf (p .half) (s .1)) (dataOf (p .half) (s′ .1)) (w .1) (ap (λ (z : Slices). dataOf (p .half) (z .1)) e),
   λ some. same-bits l (padOf (p .half) (s .1)) (padOf (p .half) (s′ .1)) (w .2 some) (ap (λ (z : Slices). padOf (p .half) (z .1)) e),
 )
 
 module _ (p : Record) (W : ℕ) (stage end xs : List Float) (before : Slices) (r r′ : Verdict) (after after′ : Slices) where
-  pub forward-bits : Forwards p W stage end xs before r after → Forwards p W stage end xs before r′ after′ → r ≡ Accepted → SameWritten p after after′
-  forward-bits f g e = written p _ _ after after′ (forward-finite p W stage end xs before r after f e) (Forwards-one p W stage end xs before f g .1)
+  pub forward-bits : Forwards p W stage end xs before r after → Forwards p W stage end xs before r′ after′ → r ≡ Accepted → SameWritten 1 p after after′
+  forward-bits f g e = written 1 p _ _ after after′ (forward-finite p W stage end xs before r after f e) (Forwards-one p W stage end xs before f g .1)
 
-  pub inverse-bits : Inverts p W stage end xs before r after → Inverts p W stage end xs before r′ after′ → r ≡ Accepted → SameWritten p after after′
-  inverse-bits f g e = written p _ _ after after′ (inverse-finite p W stage end xs before r after f e) (Inverts-one p W stage end xs before f g .1)
+  pub inverse-bits : Inverts p W stage end xs before r after → Inverts p W stage end xs before r′ after′ → r ≡ Accepted → SameWritten 0 p after after′
+  inverse-bits f g e = written 0 p _ _ after after′ (inverse-finite p W stage end xs before r after f e) (Inverts-one p W stage end xs before f g .1)
+
+-- a filling writes both slices
+pub fill-bits : (d : Direction) (p : Record) (W : ℕ) (before : Slices) (r r′ : Verdict) (after after′ : Slices)
+    → Fills d p W before r after → Fills d p W before r′ after′ → r ≡ Accepted → SameBits (after .0) (after′ .0) × SameBits (after .1) (after′ .1)
+fill-bits d p W before r r′ after after′ f g e =
+    let made = settled _ _ _ _ _ f (sym (f .answer) ∙ e) in
+    let same = Fills-one d p W before f g .1 in
+    let ones = filled-ones d p W in
+    let w = subst (λ (s : Slices). Words 0 (s .0) × Words 0 (s .1)) (sym made) ones in
+    (same-bits 0 (after .0) (after′ .0) (w .0) (ap (λ (s : Slices). s .0) same), same-bits 0 (after .1) (after′ .1) (w .1) (ap (λ (s : Slices). s .1) same))
 
 -- and the bits of the sum that power answers
 pub power-bits : (xs : List Float) (lo hi : ℕ) (r r′ : Summed) → Powers xs lo hi r → Powers xs lo hi r′ → r .verdict ≡ Accepted → (b c : ℕ) → Holds b (r .power) → Holds c (r′ .power) → b ≡ c

@@ -1,34 +1,36 @@
 -- Every number that forward and inverse write is finite: the steps of both directions, with a bound on what is read. Assumes nothing.
-use mathlib.Core.Path.{_≡_, sym, _∙_, subst}
+use mathlib.Core.Path.{_≡_, refl, sym, ap, _∙_, subst}
 use mathlib.Core.Bool.{true}
-use mathlib.Core.List.{List, _++_}
+use mathlib.Core.List.{List, [], _∷_, _++_}
 use Prim.Native.Nat.{ℕ, zero, suc, _+_, _-_, _*_, _/_, _≤_, _<_}
 use native.Mathlib.Decide.{decLe}
 use native.Mathlib.Omega.{arith}
 use lib.Ieee.{Float, nan}
 use lib.ListN.{length, getD, drop, length-append, length-drop, List·getD-append}
-use lib.Seq.{getD-append-add, getD-take, length-take-le}
+use lib.Seq.{getD-append-add, getD-take, getD-drop, length-take-le}
 use Rattle.plan.specs.Counts.{radix, twiddleCount, twiddleStart, stageTwiddles, endCount, resultIn}
+use Rattle.plan.specs.Lists.{product}
 use Rattle.plan.specs.Record.{isPlanned}
 use Rattle.plan.specs.declared.Buffer.{Buffer}
 use Rattle.plan.specs.declared.Buffer.the-variants.{Data, Scratchpad}
 use Rattle.plan.specs.declared.Record.{Record}
 use Rattle.plan.proofs.Counts.{plan-order, count-later}
-use Rattle.schedule.specs.Buffers.{Two, heldIn}
+use Rattle.schedule.specs.Buffers.{Two, driven, heldIn}
 use Rattle.schedule.specs.Plans.{inUse}
 use Rattle.schedule.proofs.Cells.{length-tabulate, getD-tabulate}
-use Rattle.schedule.proofs.Plans.{use-radix}
+use Rattle.schedule.proofs.Buffers.{driven-none}
+use Rattle.schedule.proofs.Plans.{use-length, use-product, use-radix}
 use Rattle.twiddle.specs.Places.{place}
 use Rattle.floats.specs.Complexes.{cell}
 use Rattle.kernel.proofs.Widths.{place-lt}
-use Rattle.stage.specs.Runs.{runOf, lentTo}
+use Rattle.stage.specs.Runs.{stageIn, runOf, lentTo}
 use Rattle.stage.proofs.Runs.{own-within}
 use Rattle.ends.specs.Ends.{+0, endCell, endLent, ended, fftSteps, ifftSteps, preprocess-ifft, conjugated, zeros}
 use Rattle.ends.proofs.Cells.{length-ended, length-conjugated}
 use Rattle.spectrum.specs.Parts.{Forwardable, Invertible}
 use Rattle.spectrum.specs.Transforms.{dataOf, padOf, forwardRun, forwardOf, preparedOf, inverseRun, restored, inverseOf}
 use Rattle.spectrum.proofs.Scratch.{data-length, pad-length, both-data, both-pad, run-long}
-use Rattle.spectrum.proofs.Transforms.{plan-some, plan-twice, pairs-lent}
+use Rattle.spectrum.proofs.Transforms.{plan-some, plan-twice, pairs-lent, held-long}
 use Rattle.finite.specs.Sizes.{AtMost, Both}
 use Rattle.finite.proofs.Ends.{zero-most, fft-cell, ifft-cell, tabulated-words, conjugated-words}
 use Rattle.finite.proofs.Stages.{Ones}
@@ -71,10 +73,6 @@ held-words k (suc count) b v w = go (resultIn (suc count))
     go Data = v
     go Scratchpad = w (omega arith)
 
-held-length : (n : ℕ) (which : Buffer) (b : Two Float) → length (b .0) ≡ n → length (b .1) ≡ n → length (heldIn which b) ≡ n
-held-length n Data b l m = l
-held-length n Scratchpad b l m = m
-
 -- ---- forward
 
 module _ (p : Record) (W k : ℕ) (stage end xs s : List Float) (no : ℕ) (t : Forwardable p W (length xs) no (length s) (length stage) (length end)) (few : k ≤ 56)
@@ -97,7 +95,7 @@ module _ (p : Record) (W k : ℕ) (stage end xs s : List Float) (no : ℕ) (t : 
       let Z : List Float = heldIn (resultIn (p .count)) ran in
       let wz : Words (k + 5 * p .count) Z = held-words (k + 5 * p .count) (p .count) ran (ran-words .0) (ran-words .1) in
       let lens = run-long p W stage (xs, padOf (p .half) s) long (pad-length (p .half) s (t .room)) in
-      let lz : length Z ≡ 2 * p .half = held-length (2 * p .half) (resultIn (p .count)) ran (lens .0) (lens .1) in
+      let lz : length Z ≡ 2 * p .half = held-long (2 * p .half) (resultIn (p .count)) ran (lens .0) (lens .1) in
       let room : k + 5 * p .count ≤ 121 = omega (arith, plan-order p (t .planned) .few) in
       tabulated-words (k + 5 * p .count + 3) (p .half + 1) (endCell fftSteps (p .half) (cell Z) (endLent end)) (λ j l.
       fft-cell (k + 5 * p .count) room (p .half) (plan-some p (t .planned)) (cell Z) (endLent end) (end-ones p (t .planned) end (t .ends) we)
@@ -114,8 +112,14 @@ module _ (p : Record) (W k : ℕ) (stage end xs s : List Float) (no : ℕ) (t : 
 
 -- ---- inverse
 
+-- no radix makes 1
+no-radices : (rs : List ℕ) → length rs ≡ 0 → product rs ≡ 1
+unfolding product
+no-radices [] e = refl
+no-radices (r ∷ rs) e = absurd (omega arith)
+
 -- two rows, one after the other
-joined-words : (k : ℕ) (xs ys : List Float) → Words k xs → Words k ys → Words k (xs ++ ys)
+pub joined-words : (k : ℕ) (xs ys : List Float) → Words k xs → Words k ys → Words k (xs ++ ys)
 joined-words k xs ys v w i l = pick (decLe (length xs) i)
   where
     pick : Dec (length xs ≤ i) → AtMost 1 k (getD (xs ++ ys) i nan)
@@ -168,35 +172,51 @@ module _ (p : Record) (W k : ℕ) (stage end xs s : List Float) (room : ℕ) (t 
   pad-long : length (padOf (p .half) q) ≡ 2 * p .half
   pad-long = pad-length (p .half) q (rw q-long (t .room))
 
-  back-words-of : Words (k + 3 + 5 * p .count) (runOf p W stage started .0) × (0 < p .count → Words (k + 3 + 5 * p .count) (runOf p W stage started .1))
-  back-words-of =
-      run-words p (t .planned) W (t .width) stage (lent-ones p (t .planned) W (t .width) stage (t .stages) ws) (k + 3) started (length-conjugated (p .half) (dataOf (p .half) q)) pad-long
-      (row-words (k + 3) (p .half) (dataOf (p .half) q) (data-length (p .half) q (rw q-long (t .room))) data-words)
-      (omega (arith, plan-order p (t .planned) .few))
+  -- what is beyond Data: with no stage, the last of two bins
+  pad-words : p .count ≡ 0 → Words (k + 3) (padOf (p .half) q)
+  unfolding preparedOf
+  pad-words none i l =
+      let pre : List Float = preprocess-ifft (p .half) end xs in
+      let rest : List Float = drop (2 * (p .half + 1)) s in
+      let one : p .half ≡ 1 = use-product p (t .planned) ∙ no-radices (inUse p) (use-length p (t .planned) ∙ none) in
+      let size : length pre ≡ 2 * (p .half + 1) = length-ended ifftSteps (p .half) end xs in
+      let small : i < 2 * p .half = rw pad-long at l in
+      subst (AtMost 1 (k + 3)) (sym (getD-take (2 * p .half) (drop (2 * p .half) (pre ++ rest)) i nan small ∙ getD-drop (2 * p .half) (pre ++ rest) i nan ∙ List·getD-append pre rest nan (2 * p .half + i) (omega (arith, size, small, one)))) (prepared-words (2 * p .half + i) (omega (arith, size, small, one)))
+
+  -- both buffers after the stages
+  back-words-of : Words (k + 3 + 5 * p .count) (runOf p W stage started .0) × Words (k + 3 + 5 * p .count) (runOf p W stage started .1)
+  back-words-of = (ran .0, go (p .count) refl)
+    where
+      ran : Words (k + 3 + 5 * p .count) (runOf p W stage started .0) × (0 < p .count → Words (k + 3 + 5 * p .count) (runOf p W stage started .1))
+      ran =
+          run-words p (t .planned) W (t .width) stage (lent-ones p (t .planned) W (t .width) stage (t .stages) ws) (k + 3) started (length-conjugated (p .half) (dataOf (p .half) q)) pad-long
+          (row-words (k + 3) (p .half) (dataOf (p .half) q) (data-length (p .half) q (rw q-long (t .room))) data-words)
+          (omega (arith, plan-order p (t .planned) .few))
+
+      go : (n : ℕ) → p .count ≡ n → Words (k + 3 + 5 * p .count) (runOf p W stage started .1)
+      go zero e =
+          let same : runOf p W stage started ≡ started = ap (λ (n : ℕ). driven (stageIn p W stage) n started) e ∙ driven-none (stageIn p W stage) started in
+          let more : k + 3 ≡ k + 3 + 5 * p .count = omega arith in
+          subst (λ (b : Two Float). Words (k + 3 + 5 * p .count) (b .1)) (sym same) (subst (λ (n : ℕ). Words n (padOf (p .half) q)) more (pad-words e))
+      go (suc n) e = ran .1 (omega arith)
 
   -- what is restored, in both buffers
-  both-restored : (count : ℕ) (b : Two Float) → length (b .0) ≡ 2 * p .half → length (b .1) ≡ 2 * p .half → Words (k + 3 + 5 * p .count) (b .0) → (0 < count → Words (k + 3 + 5 * p .count) (b .1))
-      → (length (restored (p .half) (resultIn count) b .0) ≡ 2 * p .half) × (length (restored (p .half) (resultIn count) b .1) ≡ 2 * p .half)
-      × Words (k + 3 + 5 * p .count) (restored (p .half) (resultIn count) b .0) × (0 < count → Words (k + 3 + 5 * p .count) (restored (p .half) (resultIn count) b .1))
-  unfolding resultIn
-  both-restored zero b l m v w = (length-conjugated (p .half) (b .0), m, row-words (k + 3 + 5 * p .count) (p .half) (b .0) l v, λ z. absurd (omega arith))
-  both-restored (suc count) b l m v w = go (resultIn (suc count))
-    where
-      go : (which : Buffer) → (length (restored (p .half) which b .0) ≡ 2 * p .half) × (length (restored (p .half) which b .1) ≡ 2 * p .half)
-          × Words (k + 3 + 5 * p .count) (restored (p .half) which b .0) × (0 < suc count → Words (k + 3 + 5 * p .count) (restored (p .half) which b .1))
-      go Data = (length-conjugated (p .half) (b .0), m, row-words (k + 3 + 5 * p .count) (p .half) (b .0) l v, w)
-      go Scratchpad =
-          let u = row-words (k + 3 + 5 * p .count) (p .half) (b .1) m (w (omega arith)) in
-          (length-conjugated (p .half) (b .1), length-conjugated (p .half) (b .1), u, λ z. u)
+  both-restored : (which : Buffer) (b : Two Float) → length (b .0) ≡ 2 * p .half → length (b .1) ≡ 2 * p .half → Words (k + 3 + 5 * p .count) (b .0) → Words (k + 3 + 5 * p .count) (b .1)
+      → (length (restored (p .half) which b .0) ≡ 2 * p .half) × (length (restored (p .half) which b .1) ≡ 2 * p .half)
+      × Words (k + 3 + 5 * p .count) (restored (p .half) which b .0) × Words (k + 3 + 5 * p .count) (restored (p .half) which b .1)
+  both-restored Data b l m v w = (length-conjugated (p .half) (b .0), m, row-words (k + 3 + 5 * p .count) (p .half) (b .0) l v, w)
+  both-restored Scratchpad b l m v w =
+      let u = row-words (k + 3 + 5 * p .count) (p .half) (b .1) m w in
+      (length-conjugated (p .half) (b .1), length-conjugated (p .half) (b .1), u, u)
 
   -- what is restored of the run
   restored-words : (length (restored (p .half) (resultIn (p .count)) (runOf p W stage started) .0) ≡ 2 * p .half)
       × (length (restored (p .half) (resultIn (p .count)) (runOf p W stage started) .1) ≡ 2 * p .half)
       × Words (k + 3 + 5 * p .count) (restored (p .half) (resultIn (p .count)) (runOf p W stage started) .0)
-      × (0 < p .count → Words (k + 3 + 5 * p .count) (restored (p .half) (resultIn (p .count)) (runOf p W stage started) .1))
+      × Words (k + 3 + 5 * p .count) (restored (p .half) (resultIn (p .count)) (runOf p W stage started) .1)
   restored-words =
       let lens = run-long p W stage started (length-conjugated (p .half) (dataOf (p .half) q)) pad-long in
-      both-restored (p .count) (runOf p W stage started) (lens .0) (lens .1) (back-words-of .0) (back-words-of .1)
+      both-restored (resultIn (p .count)) (runOf p W stage started) (lens .0) (lens .1) (back-words-of .0) (back-words-of .1)
 
   pub inverse-words : Words (k + 3 + 5 * p .count) (inverseOf p W stage end xs s room .0)
   unfolding inverseOf inverseRun
@@ -204,11 +224,11 @@ module _ (p : Record) (W k : ℕ) (stage end xs s : List Float) (room : ℕ) (t 
       joined-words (k + 3 + 5 * p .count) (restored (p .half) (resultIn (p .count)) (runOf p W stage started) .0) (zeros (room - 2 * p .half)) (restored-words .2)
       (zeros-words (k + 3 + 5 * p .count) (room - 2 * p .half))
 
-  pub inverse-scratch : Words (k + 3 + 5 * p .count) (dataOf (p .half) (inverseOf p W stage end xs s room .1)) × (0 < p .count → Words (k + 3 + 5 * p .count) (padOf (p .half) (inverseOf p W stage end xs s room .1)))
+  pub inverse-scratch : Words (k + 3 + 5 * p .count) (dataOf (p .half) (inverseOf p W stage end xs s room .1)) × Words (k + 3 + 5 * p .count) (padOf (p .half) (inverseOf p W stage end xs s room .1))
   unfolding inverseOf inverseRun
   inverse-scratch =
       let b : Two Float = restored (p .half) (resultIn (p .count)) (runOf p W stage started) in
       let r = restored-words in (
         subst (Words (k + 3 + 5 * p .count)) (sym (both-data (p .half) b s (r .0) (r .1))) (r .2),
-        λ some. subst (Words (k + 3 + 5 * p .count)) (sym (both-pad (p .half) b s (r .0) (r .1))) (r .3 some),
+        subst (Words (k + 3 + 5 * p .count)) (sym (both-pad (p .half) b s (r .0) (r .1))) (r .3),
       )
