@@ -1,3 +1,5 @@
 -- The laws that the proofs share, by subject.
 pub mod Flat
 pub mod Scan
+pub mod Words
+pub mod Unique

@@ -1,20 +1,19 @@
 -- The first number at which a test fails, step by step; and that the test at a bound 2 ^ k is the definition's. Assumes nothing.
-use Prim.Native.Nat.{ℕ, zero, suc, _+_, _*_, _^_, _<_, _≤_}
-use native.Mathlib.Nat.{mul-one, one-mul, mul-pos, eq-or-lt-of-le, lt-of-not-le, add-zero}
+use Prim.Native.Nat.{ℕ, suc, _+_, _*_, _^_, _<_, _≤_}
+use native.Mathlib.Nat.{mul-one, one-mul, mul-pos, eq-or-lt-of-le, lt-of-not-le, add-zero, zero-add, suc-add}
 use native.Mathlib.Numerals.{add-one}
 use native.Mathlib.Omega.{arith}
 use mathlib.Core.Path.{_≡_, refl, sym, ap, subst, _∙_}
 use mathlib.Core.Logic.{inl, inr, dite}
 use native.Mathlib.Decide.{decLe}
-use mathlib.Core.Bool.{Bool, true, false, cond, not, _&&_, _||_}
-use mathlib.Core.List.{List, [], _∷_}
+use mathlib.Core.Bool.{Bool, true, false, cond, _&&_, _||_}
+use mathlib.Core.List.{List, [], _∷_, _++_}
 use lib.Dec.{ltb, leb, eqb}
 use lib.ListN.{length, getD, drop, drop-of-length-le}
 use lib.Seq.{drop-cons}
 use lib.Pow.{pow-pos}
-use lib.IntN.{pos}
 use lib.Ieee.{Float, nan, inf, fin, le, lt, eq, neg, up, down}
-use lib.Ieee.Fits.{down-pos, up-pos}
+use lib.Ieee.Fits.{down-pos}
 use borrow.Author.Tests.{lt-ltb, le-ltb, le-leb, lt-leb, eq-eqb, ne-eqb}
 use Rattle.floats.specs.Scan.{fits, firstNot, firstUnfit, bound, within, Passed}
 
@@ -40,6 +39,25 @@ first-end p xs i g h e = e ∙ ap (λ (l : List Float). i + firstNot p l) (drop-
 pub first-same : (p q : Float → Bool) (xs : List Float) → ((x : Float) → p x ≡ q x) → firstNot p xs ≡ firstNot q xs
 first-same p q [] h = refl
 first-same p q (x ∷ xs) h = rw (h x, first-same p q xs h)
+
+-- the first number that fails in two rows joined: the first row's, or where all of that pass the second's
+pub joined-first : (f : Float → Bool) (xs ys : List Float) → firstNot f xs < length xs → firstNot f (xs ++ ys) ≡ firstNot f xs
+joined-first f [] ys l = absurd (omega arith)
+joined-first f (x ∷ xs) ys l = go (f x) l (λ m. joined-first f xs ys m)
+  where
+    go : (b : Bool) → cond b (suc (firstNot f xs)) 0 < suc (length xs) → (firstNot f xs < length xs → firstNot f (xs ++ ys) ≡ firstNot f xs)
+        → cond b (suc (firstNot f (xs ++ ys))) 0 ≡ cond b (suc (firstNot f xs)) 0
+    go true l e = ap suc (e (omega arith))
+    go false l e = refl
+
+pub joined-second : (f : Float → Bool) (xs ys : List Float) → length xs ≤ firstNot f xs → firstNot f (xs ++ ys) ≡ length xs + firstNot f ys
+joined-second f [] ys l = sym (zero-add (firstNot f ys))
+joined-second f (x ∷ xs) ys l = go (f x) l (λ m. joined-second f xs ys m)
+  where
+    go : (b : Bool) → suc (length xs) ≤ cond b (suc (firstNot f xs)) 0 → (length xs ≤ firstNot f xs → firstNot f (xs ++ ys) ≡ length xs + firstNot f ys)
+        → cond b (suc (firstNot f (xs ++ ys))) 0 ≡ suc (length xs) + firstNot f ys
+    go true l e = ap suc (e (omega arith)) ∙ sym (suc-add (length xs) (firstNot f ys))
+    go false l e = absurd (omega arith)
 
 -- ---- the code's test
 and-true : (b : Bool) → (b && true) ≡ b

@@ -1,6 +1,7 @@
 -- Complex arithmetic in binary32, each operation rounded once, and complex cells in a flat list: cell n is words 2 * n and 2 * n + 1.
 -- Assumes nothing.
 use Prim.Native.Nat.{ℕ, _+_, _*_}
+use mathlib.Core.Path.{_≡_}
 use mathlib.Core.List.{List, [], _∷_}
 use lib.ListN.{getD, set}
 use lib.Ieee.{Float, nan, binary32, add, sub, mul, neg}
@@ -55,3 +56,20 @@ paired (x ∷ (y ∷ xs)) = cx x y ∷ paired xs
 unfoldable pub flat : List Complex → List Float
 flat [] = []
 flat (z ∷ zs) = z .re ∷ (z .im ∷ flat zs)
+
+-- ---- what the calls promise of their answer r
+
+abbrev pub Adds : (x y r : Complex) → Type 0
+Adds x y r = r ≡ plus x y
+
+abbrev pub Subtracts : (x y r : Complex) → Type 0
+Subtracts x y r = r ≡ minus x y
+
+abbrev pub Multiplies : (x y r : Complex) → Type 0
+Multiplies x y r = r ≡ times x y
+
+abbrev pub Conjugates : (x r : Complex) → Type 0
+Conjugates x r = r ≡ conjugate x
+
+abbrev pub TurnsBy : Turn → (x r : Complex) → Type 0
+TurnsBy t x r = r ≡ turnedBy t x

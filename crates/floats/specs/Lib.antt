@@ -1,3 +1,4 @@
 -- The definitions that contracts cite.
 pub mod Complexes
 pub mod Scan
+pub mod Words

@@ -8,7 +8,7 @@ use lib.ListN.{drop}
 use lib.Ieee.{Float, nan, inf, fin, le, neg, up, down}
 use lib.IntN.{pos}
 
--- finite, and at most 2 ^ k in magnitude
+-- finite, and at most 2 ^ k in magnitude: a finite number is m * 2 ^ e in size, which is m * up e over down e
 unfoldable pub fits : (k : ℕ) → Float → Bool
 fits k nan = false
 fits k (inf s) = false

@@ -1,7 +1,6 @@
 // Complex numbers of two f32.
 use turn::Turn;
-ghost use mathlib.Core.Path.{_≡_};
-ghost use Rattle.floats.specs.Complexes.{plus, minus, times, conjugate, turnedBy};
+ghost use Rattle.floats.specs.Complexes.{Adds, Subtracts, Multiplies, Conjugates, TurnsBy};
 
 // A real and an imaginary part.
 pub struct Complex {
@@ -11,7 +10,7 @@ pub struct Complex {
 
 impl Complex {
     pub fn add(self, o: Complex) -> Complex
-        ensures { λ r. ⌜ r ≡ plus self o ⌝ }
+        ensures { λ r. ⌜ Adds self o r ⌝ }
     {
         Complex {
             re: self.re + o.re,
@@ -20,7 +19,7 @@ impl Complex {
     }
 
     pub fn sub(self, o: Complex) -> Complex
-        ensures { λ r. ⌜ r ≡ minus self o ⌝ }
+        ensures { λ r. ⌜ Subtracts self o r ⌝ }
     {
         Complex {
             re: self.re - o.re,
@@ -30,7 +29,7 @@ impl Complex {
 
     // In full.
     pub fn mul(self, o: Complex) -> Complex
-        ensures { λ r. ⌜ r ≡ times self o ⌝ }
+        ensures { λ r. ⌜ Multiplies self o r ⌝ }
     {
         Complex {
             re: self.re * o.re - self.im * o.im,
@@ -39,7 +38,7 @@ impl Complex {
     }
 
     pub fn conj(self) -> Complex
-        ensures { λ r. ⌜ r ≡ conjugate self ⌝ }
+        ensures { λ r. ⌜ Conjugates self r ⌝ }
     {
         Complex {
             re: self.re,
@@ -49,7 +48,7 @@ impl Complex {
 
     // Whole quarters exchange and flip signs, any other turn multiplies in full.
     pub fn turned(self, t: Turn) -> Complex
-        ensures { λ r. ⌜ r ≡ turnedBy t self ⌝ }
+        ensures { λ r. ⌜ TurnsBy t self r ⌝ }
     {
         match t {
             Turn::Zero => self,

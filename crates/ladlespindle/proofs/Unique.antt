@@ -1,64 +1,64 @@
 -- Two answers that meet a promise are equal: one theorem for each exported function. Assumes nothing.
 use Prim.Native.Nat.{ℕ, zero, suc, _≤_}
 use native.Mathlib.Omega.{arith}
-use mathlib.Core.Path.{_≡_, refl, sym, _∙_}
+use mathlib.Core.Path.{_≡_, refl, sym}
 use mathlib.Core.List.{List}
 use lib.Ieee.{Float}
 use Rattle.refusal.specs.declared.Verdict.{Verdict}
+use Rattle.refusal.proofs.Unique.{agree}
 use Rattle.plan.specs.declared.Record.{Record}
 use Rattle.schedule.specs.Buffers.{Two}
+use Rattle.twiddle.specs.Calls.{Slices}
 use Rattle.ladlespindle.specs.declared.Answer.{Answer}
 use Rattle.ladlespindle.specs.declared.Power.{Power}
 use Rattle.ladlespindle.specs.declared.Ran.{Ran}
 use Rattle.ladlespindle.specs.declared.Scaling.{Scaling}
 use Rattle.ladlespindle.specs.declared.TurnWords.{TurnWords}
-use Rattle.ladlespindle.specs.Calls.{Gives, GivesTurn, GivesPower, GivesRemainderRun}
+use Rattle.ladlespindle.specs.Calls.{Gives, GivesTurn, GivesForward, GivesInverse, GivesStage, GivesSpectrum, GivesSamples, GivesPower, GivesRemainderStage, GivesRemainderRun}
 use Rattle.ladlespindle.specs.Exports.{GivesPlan, GivesNumber, GivesPlace, GivesLength, GivesHalf, GivesStages, GivesMerges, GivesRadix, GivesLetter, GivesStageTwiddles, GivesEndTwiddles, GivesResult, GivesAcceptance, GivesScaling}
 
--- two answers that equal the same value
-same : {A : Type 0} {a b x : A} → a ≡ x → b ≡ x → a ≡ b
-same p q = p ∙ sym q
+-- ---- planning
 
 module _ (list : List ℕ) where
-  pub one-plan : (a b : Record) → GivesPlan list a → GivesPlan list b → a ≡ b
-  one-plan a b p q = same (p .answer) (q .answer)
+  pub GivesPlan-one : {r s : Record} → GivesPlan list r → GivesPlan list s → r ≡ s
+  GivesPlan-one a b = agree (a .answer) (b .answer)
 
-  module _ (a b : ℕ) where
-    pub one-number : GivesNumber list a → GivesNumber list b → a ≡ b
-    one-number p q = same (p .answer) (q .answer)
+  module _ {r s : ℕ} where
+    pub GivesNumber-one : GivesNumber list r → GivesNumber list s → r ≡ s
+    GivesNumber-one a b = agree (a .answer) (b .answer)
 
-    pub one-place : GivesPlace list a → GivesPlace list b → a ≡ b
-    one-place p q = same (p .answer) (q .answer)
+    pub GivesPlace-one : GivesPlace list r → GivesPlace list s → r ≡ s
+    GivesPlace-one a b = agree (a .answer) (b .answer)
 
-    pub one-length : GivesLength list a → GivesLength list b → a ≡ b
-    one-length p q = same (p .answer) (q .answer)
+    pub GivesLength-one : GivesLength list r → GivesLength list s → r ≡ s
+    GivesLength-one a b = agree (a .answer) (b .answer)
 
-    pub one-half : GivesHalf list a → GivesHalf list b → a ≡ b
-    one-half p q = same (p .answer) (q .answer)
+    pub GivesHalf-one : GivesHalf list r → GivesHalf list s → r ≡ s
+    GivesHalf-one a b = agree (a .answer) (b .answer)
 
-    pub one-stages : GivesStages list a → GivesStages list b → a ≡ b
-    one-stages p q = same (p .answer) (q .answer)
+    pub GivesStages-one : GivesStages list r → GivesStages list s → r ≡ s
+    GivesStages-one a b = agree (a .answer) (b .answer)
 
-    pub one-radix : (stage : ℕ) → GivesRadix list stage a → GivesRadix list stage b → a ≡ b
-    one-radix stage p q = same (p .answer) (q .answer)
+    pub GivesMerges-one : GivesMerges list r → GivesMerges list s → r ≡ s
+    GivesMerges-one a b = agree (a .answer) (b .answer)
 
-    pub one-merges : GivesMerges list a → GivesMerges list b → a ≡ b
-    one-merges p q = same (p .answer) (q .answer)
+    pub GivesStageTwiddles-one : GivesStageTwiddles list r → GivesStageTwiddles list s → r ≡ s
+    GivesStageTwiddles-one a b = agree (a .answer) (b .answer)
 
-    pub one-letter : (index : ℕ) → GivesLetter list index a → GivesLetter list index b → a ≡ b
-    one-letter index p q = same (p .answer) (q .answer)
+    pub GivesEndTwiddles-one : GivesEndTwiddles list r → GivesEndTwiddles list s → r ≡ s
+    GivesEndTwiddles-one a b = agree (a .answer) (b .answer)
 
-    pub one-stage-twiddles : GivesStageTwiddles list a → GivesStageTwiddles list b → a ≡ b
-    one-stage-twiddles p q = same (p .answer) (q .answer)
+    pub GivesResult-one : GivesResult list r → GivesResult list s → r ≡ s
+    GivesResult-one a b = agree (a .answer) (b .answer)
 
-    pub one-end-twiddles : GivesEndTwiddles list a → GivesEndTwiddles list b → a ≡ b
-    one-end-twiddles p q = same (p .answer) (q .answer)
+    pub GivesRadix-one : (stage : ℕ) → GivesRadix list stage r → GivesRadix list stage s → r ≡ s
+    GivesRadix-one stage a b = agree (a .answer) (b .answer)
 
-    pub one-result : GivesResult list a → GivesResult list b → a ≡ b
-    one-result p q = same (p .answer) (q .answer)
+    pub GivesLetter-one : (index : ℕ) → GivesLetter list index r → GivesLetter list index s → r ≡ s
+    GivesLetter-one index a b = agree (a .answer) (b .answer)
 
-pub one-scaling : (ins outs : List ℕ) (a b : Scaling) → GivesScaling ins outs a → GivesScaling ins outs b → a ≡ b
-one-scaling ins outs a b p q = same (p .answer) (q .answer)
+pub GivesScaling-one : (ins outs : List ℕ) {r s : Scaling} → GivesScaling ins outs r → GivesScaling ins outs s → r ≡ s
+GivesScaling-one ins outs a b = agree (a .answer) (b .answer)
 
 -- two bits that are 1 in the same case
 same-bit : (a b : ℕ) → a ≤ 1 → b ≤ 1 → (a ≡ 1 → b ≡ 1) → (b ≡ 1 → a ≡ 1) → a ≡ b
@@ -66,21 +66,45 @@ same-bit zero zero p q f g = refl
 same-bit zero (suc b) p q f g = sym (omega (arith, g (omega arith)))
 same-bit (suc a) b p q f g = omega (arith, f (omega arith))
 
-pub one-acceptance : (plan : Record) (a b : ℕ) → GivesAcceptance plan a → GivesAcceptance plan b → a ≡ b
-one-acceptance plan a b p q =
-    same-bit a b (p .bit) (q .bit) (λ (e : a ≡ 1). q .one .1 (p .one .0 e)) (λ (e : b ≡ 1). p .one .1 (q .one .0 e))
+pub GivesAcceptance-one : (plan : Record) {r s : ℕ} → GivesAcceptance plan r → GivesAcceptance plan s → r ≡ s
+GivesAcceptance-one plan {r} {s} a b = same-bit r s (a .bit) (b .bit) (λ (e : r ≡ 1). b .one .1 (a .one .0 e)) (λ (e : s ≡ 1). a .one .1 (b .one .0 e))
 
--- `ladlespindle_fill_forward`, `ladlespindle_fill_inverse`, `ladlespindle_stage`, `ladlespindle_forward`, `ladlespindle_inverse`,
--- `ladlespindle_remainder_stage`
-pub one-given : {A : Type 0} (v : Verdict) (made lent : A) (a b : Answer) (x y : A) → Gives v made lent a x → Gives v made lent b y → (a ≡ b) × (x ≡ y)
-one-given v made lent a b x y p q = (same (p .answer) (q .answer), same (p .cells) (q .cells))
+-- ---- a single turn, and a sum
 
-pub one-turn : (t L : ℕ) (a b : TurnWords) → GivesTurn t L a → GivesTurn t L b → a ≡ b
-one-turn t L a b p q = same (p .answer) (q .answer)
+pub GivesTurn-one : (t L : ℕ) {r s : TurnWords} → GivesTurn t L r → GivesTurn t L s → r ≡ s
+GivesTurn-one t L a b = agree (a .answer) (b .answer)
 
-pub one-power : (spectrum : List Float) (lo hi : ℕ) (a b : Power) → GivesPower spectrum lo hi a → GivesPower spectrum lo hi b → a ≡ b
-one-power spectrum lo hi a b p q = same (p .answer) (q .answer)
+pub GivesPower-one : (spectrum : List Float) (lo hi : ℕ) {r s : Power} → GivesPower spectrum lo hi r → GivesPower spectrum lo hi s → r ≡ s
+GivesPower-one spectrum lo hi a b = agree (a .answer) (b .answer)
 
-pub one-remainder-run : (p : Record) (m w : ℕ) (before : Two ℕ) (a b : Ran) (ys zs : Two ℕ)
-    → GivesRemainderRun p m w before a ys → GivesRemainderRun p m w before b zs → (a ≡ b) × (ys ≡ zs)
-one-remainder-run p m w before a b ys zs x y = (same (x .answer) (y .answer), same (x .cells) (y .cells))
+-- ---- calls that write
+
+-- any of them that answers number and place
+given-one : {A : Type 0} {v : Verdict} {made lent : A} {r s : Answer} {x y : A} → Gives v made lent r x → Gives v made lent s y → (r ≡ s) × (x ≡ y)
+given-one a b = (agree (a .answer) (b .answer), agree (a .cells) (b .cells))
+
+module _ (p : Record) (W : ℕ) (before : Slices) {r s : Answer} {x y : Slices} where
+  pub GivesForward-one : GivesForward p W before r x → GivesForward p W before s y → (r ≡ s) × (x ≡ y)
+  GivesForward-one a b = given-one a b
+
+  pub GivesInverse-one : GivesInverse p W before r x → GivesInverse p W before s y → (r ≡ s) × (x ≡ y)
+  GivesInverse-one a b = given-one a b
+
+  module _ (stage end input : List Float) where
+    pub GivesSpectrum-one : GivesSpectrum p W stage end input before r x → GivesSpectrum p W stage end input before s y → (r ≡ s) × (x ≡ y)
+    GivesSpectrum-one a b = given-one a b
+
+    pub GivesSamples-one : GivesSamples p W stage end input before r x → GivesSamples p W stage end input before s y → (r ≡ s) × (x ≡ y)
+    GivesSamples-one a b = given-one a b
+
+pub GivesStage-one : (p : Record) (j W : ℕ) (input output twiddles : List Float) {r s : Answer} {x y : List Float}
+    → GivesStage p j W input output twiddles r x → GivesStage p j W input output twiddles s y → (r ≡ s) × (x ≡ y)
+GivesStage-one p j W input output twiddles a b = given-one a b
+
+pub GivesRemainderStage-one : (p : Record) (j m w : ℕ) (input other : List ℕ) {r s : Answer} {x y : List ℕ}
+    → GivesRemainderStage p j m w input other r x → GivesRemainderStage p j m w input other s y → (r ≡ s) × (x ≡ y)
+GivesRemainderStage-one p j m w input other a b = given-one a b
+
+pub GivesRemainderRun-one : (p : Record) (m w : ℕ) (before : Two ℕ) {r s : Ran} {x y : Two ℕ}
+    → GivesRemainderRun p m w before r x → GivesRemainderRun p m w before s y → (r ≡ s) × (x ≡ y)
+GivesRemainderRun-one p m w before a b = (agree (a .answer) (b .answer), agree (a .cells) (b .cells))

@@ -12,13 +12,12 @@ use Rattle.schedule.specs.Buffers.{Two}
 use Rattle.turn.specs.Calls.{part, turnVerdict}
 use Rattle.turn.specs.Turns.{+0, turnOf, wordsOf}
 use Rattle.twiddle.specs.Calls.{Slices, fillVerdict, filled}
-use Rattle.twiddle.specs.declared.inner.ends.Direction.{Direction}
 use Rattle.twiddle.specs.declared.inner.ends.Direction.the-variants.{Forward, Inverse}
 use Rattle.kernel.specs.Floats.{stageOf as stageWords}
 use Rattle.stage.specs.Calls as Floats
 use Rattle.spectrum.specs.Calls.{forwardVerdict, inverseVerdict}
 use Rattle.spectrum.specs.Power.{powerFrom, powerVerdict, summed}
-use Rattle.spectrum.specs.Transforms.{forwardOf, inverseOf}
+use Rattle.spectrum.specs.Transforms.{forwardOf, inverseOf, Slices as Buffers}
 use Rattle.spectrum.specs.declared.Summed.{Summed}
 use Rattle.remainder.specs.Calls.{stageVerdict, stageOf, runVerdict, runOf}
 use Rattle.ladlespindle.specs.declared.Answer.{Answer}
@@ -69,11 +68,11 @@ GivesStage p j W input output twiddles r after =
 -- ---- spectra
 
 -- what `ladlespindle_forward` and `ladlespindle_inverse` promise of the answer r and of what is left in output and scratch
-abbrev pub GivesSpectrum : Record → (W : ℕ) → (stage end input : List Float) → Slices → Answer → Slices → Type 0
+abbrev pub GivesSpectrum : Record → (W : ℕ) → (stage end input : List Float) → Buffers → Answer → Buffers → Type 0
 GivesSpectrum p W stage end input before r after =
     Gives (forwardVerdict p W input (length (before .0)) (length (before .1)) stage end) (forwardOf p W stage end input (before .1)) before r after
 
-abbrev pub GivesSamples : Record → (W : ℕ) → (stage end input : List Float) → Slices → Answer → Slices → Type 0
+abbrev pub GivesSamples : Record → (W : ℕ) → (stage end input : List Float) → Buffers → Answer → Buffers → Type 0
 GivesSamples p W stage end input before r after =
     Gives (inverseVerdict p W input (length (before .0)) (length (before .1)) stage end) (inverseOf p W stage end input (before .1) (length (before .0))) before r after
 

@@ -4,3 +4,4 @@ pub mod Decimal
 pub mod Reading
 pub mod Plans
 pub mod Reports
+pub mod Unique

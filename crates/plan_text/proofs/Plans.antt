@@ -4,12 +4,11 @@ use native.Mathlib.Decide.{decLe}
 use native.Mathlib.Omega.{arith}
 use mathlib.Core.Logic.{dite}
 use mathlib.Core.Path.{_≡_, refl, sym, ap, _∙_}
-use mathlib.Core.Bool.{Bool, true, false, not, _&&_}
-use mathlib.Core.List.{List, [], _∷_}
+use mathlib.Core.Bool.{Bool, true, false, _&&_}
+use mathlib.Core.List.{List}
 use lib.ListN.{length, take}
 use lib.Seq.{take-length, take-all}
-use Rattle.refusal.specs.Refusal.{_⇒_, verdict}
-use Rattle.refusal.specs.declared.Refusal.the-variants.{NotPlanned}
+use Rattle.refusal.specs.Refusal.{verdict}
 use Rattle.refusal.specs.declared.Verdict.{Verdict}
 use Rattle.refusal.specs.declared.Verdict.the-variants.{Accepted, Refused}
 use Rattle.plan.specs.Record.{planVerdict, planned, plannedBy, acceptedPlan, refusedPlan, inOrder, sized, isPlanned}
@@ -19,6 +18,7 @@ use Rattle.plan.specs.declared.Buffer.{Buffer}
 use Rattle.plan.specs.declared.Counted.{Counted}
 use Rattle.plan.specs.declared.Located.{Located}
 use Rattle.plan.specs.declared.Planned.{Planned}
+use Rattle.plan.proofs.Planning.{record-accepted}
 use Rattle.plan.proofs.Records.{accepted-good, in-order, planned-passes}
 use Rattle.plan_text.specs.Tokens.{radices, firstRead}
 use Rattle.plan_text.specs.Report.{linesOf, reportOf, textOf, Reports}
@@ -35,18 +35,13 @@ pub planned-count : (p : Record) → isPlanned p ≡ true → p .count ≤ 13
 unfolding isPlanned
 planned-count p e = in-order (p .count) (p .radices) (first-holds (inOrder (p .count) (p .radices)) (sized p) e) .few
 
--- a plan is not refused
-accepted : (p : Record) → isPlanned p ≡ true → recordVerdict p ≡ Accepted
-unfolding recordVerdict
-accepted p e = ap (λ (x : Bool). verdict (not x ⇒ NotPlanned 0 ∷ [])) e
-
 -- what is counted of it
 pub count-of : (p : Record) (r : Counted) (k : ℕ) → isPlanned p ≡ true → r ≡ counted (recordVerdict p) k → r .count ≡ k
-count-of p r k e q = ap (λ (x : Counted). x .count) q ∙ ap (λ (v : Verdict). counted v k .count) (accepted p e)
+count-of p r k e q = ap (λ (x : Counted). x .count) q ∙ ap (λ (v : Verdict). counted v k .count) (record-accepted p e)
 
 -- where its result is
 pub buffer-of : (p : Record) (r : Located) (b : Buffer) → isPlanned p ≡ true → r ≡ located (recordVerdict p) b → r .buffer ≡ b
-buffer-of p r b e q = ap (λ (x : Located). x .buffer) q ∙ ap (λ (v : Verdict). located v b .buffer) (accepted p e)
+buffer-of p r b e q = ap (λ (x : Located). x .buffer) q ∙ ap (λ (v : Verdict). located v b .buffer) (record-accepted p e)
 
 -- an accepted answer of planning holds a plan
 pub planned-ok : (xs : List ℕ) (r : Planned) → r ≡ planned xs → r .verdict ≡ Accepted → isPlanned (r .plan) ≡ true

@@ -1,4 +1,4 @@
--- What follows from the promise of `report`: one answer only, its used bytes, and worked examples. Assumes nothing.
+-- What follows from the promise of `report`: its used bytes, and worked examples. Assumes nothing.
 use Prim.Native.Nat.{ℕ, _-_, _≤_}
 use native.Mathlib.Omega.{arith}
 use mathlib.Core.Path.{_≡_, refl, sym, ap, _∙_}
@@ -14,10 +14,6 @@ use Rattle.plan_text.specs.Tokens.{isBlank, tokensFrom, tokens, digitVal
 use Rattle.plan_text.specs.Lines.{ascii, lastDigits, decimal}
 use Rattle.plan_text.specs.Report.{factorWords, planLines, refusalLine, reportOf, Reports}
 use Rattle.plan_text.specs.declared.Text.{Text}
-
--- two texts that meet the promise are the same
-pub report-unique : {input : List ℕ} {r q : Text} → Reports input r → Reports input q → r ≡ q
-report-unique f g = f .answer ∙ sym (g .answer)
 
 -- the used bytes are the report
 pub report-used : {input : List ℕ} {r : Text} → Reports input r → take (r .len) (r .bytes) ≡ reportOf input

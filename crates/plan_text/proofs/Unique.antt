@@ -1,0 +1,10 @@
+-- Two answers that meet a promise are equal. Assumes nothing.
+use Prim.Native.Nat.{ℕ}
+use mathlib.Core.Path.{_≡_}
+use mathlib.Core.List.{List}
+use Rattle.refusal.proofs.Unique.{agree}
+use Rattle.plan_text.specs.Report.{Reports}
+use Rattle.plan_text.specs.declared.Text.{Text}
+
+pub Reports-one : {input : List ℕ} {r s : Text} → Reports input r → Reports input s → r ≡ s
+Reports-one a b = agree (a .answer) (b .answer)
