@@ -1,11 +1,10 @@
 -- The steps at a transform's ends, on h + 1 complex cells in a flat list: `postprocess-fft` from the stages' outputs to bins,
 -- `preprocess-ifft` from bins to the stages' inputs. Assumes nothing.
 use Prim.Native.Nat.{ℕ, _+_, _-_, _*_}
-use mathlib.Core.Bool.{cond}
-use mathlib.Core.List.{List, _++_}
+use mathlib.Core.Bool.{Bool, cond}
+use mathlib.Core.List.{List}
 use lib.Dec.{eqb, ltb}
 use lib.Ieee.{Float, binary32, add, sub, mul, neg, ofBits}
-use lib.ListN.{length, take, drop}
 use Rattle.schedule.specs.Stage.{tabulate}
 use Rattle.floats.specs.Complexes.{cx, plus, minus, conjugate, cell, flat}
 use Rattle.floats.specs.declared.complex.Complex.{Complex}
@@ -81,7 +80,7 @@ endLent tw k = cell tw (k - 1)
 unfoldable pub ended : Steps → (h : ℕ) → (tw xs : List Float) → List Float
 ended s h tw xs = flat (tabulate (h + 1) 0 (endCell s h (cell xs) (endLent tw)))
 
--- bins 0 and h are real, bin h / 2 is conjugated
+-- bins 0 and h are real, bin h / 2 is conjugated; cell h, which the stages do not make, is not looked at
 abbrev pub fftSteps : Steps
 fftSteps =
     record {
@@ -106,6 +105,10 @@ ifftSteps =
       centre = λ c. conjugate (plus c c);
     }
 
+-- those of either direction
+abbrev pub stepsOf : (forward : Bool) → Steps
+stepsOf forward = cond forward fftSteps ifftSteps
+
 abbrev pub postprocess-fft : (h : ℕ) → (tw xs : List Float) → List Float
 postprocess-fft h tw xs = ended fftSteps h tw xs
 
@@ -121,7 +124,3 @@ conjugated h xs = flat (tabulate h 0 (λ j. conjugate (cell xs j)))
 -- so many zeros
 abbrev pub zeros : ℕ → List Float
 zeros k = tabulate k 0 (λ j. +0)
-
--- a row with the words of another from `at` on
-abbrev pub pasted : List Float → (at : ℕ) → List Float → List Float
-pasted ys at xs = take at ys ++ xs ++ drop (at + length xs) ys

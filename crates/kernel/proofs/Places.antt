@@ -1,6 +1,6 @@
 -- The outputs of a stage reach their cells: in the first stage one iteration after the other, later a row of a block at a time.
 -- Assumes nothing.
-use mathlib.Core.Path.{_≡_, refl, sym, ap, _∙_}
+use mathlib.Core.Path.{_≡_, sym, ap, _∙_}
 use mathlib.Core.List.{List}
 use Prim.Native.Nat.{ℕ, suc, _+_, _-_, _*_, _/_, _%_, _≤_, _<_}
 use native.Mathlib.Nat.{add-assoc, div-one, mod-one, div-add-mod', div-lt-iff-lt-mul, mul-le-mul-right, suc-mul, mul-comm}

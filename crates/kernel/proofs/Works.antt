@@ -2,7 +2,7 @@
 use mathlib.Core.Path.{_≡_, refl, sym, ap, _∙_}
 use mathlib.Core.Bool.{true, false}
 use mathlib.Core.List.{List}
-use Prim.Native.Nat.{ℕ, suc, _+_, _-_, _*_, _/_, _≤_, _<_}
+use Prim.Native.Nat.{ℕ, suc, _-_, _*_, _/_, _≤_, _<_}
 use native.Mathlib.Nat.{le-of-lt, div-mul-le-self, div-le-self, mul-div-left}
 use native.Mathlib.Omega.{arith}
 use lib.Dec.{eqb}
@@ -10,13 +10,13 @@ use lib.ListN.{length, getD, drop}
 use lib.Ieee.{Float}
 use borrow.Author.Tests.{eq-eqb, ne-eqb}
 use Rattle.plan.specs.Counts.{radix, stride}
-use Rattle.plan.specs.Lists.{product, isRadix}
+use Rattle.plan.specs.Lists.{product}
 use Rattle.plan.specs.declared.Record.{Record}
 use Rattle.plan.proofs.Counts.{plan-half, plan-radix, plan-radix-bounds, count-later, stride-none}
 use Rattle.schedule.specs.Plans.{inUse}
 use Rattle.schedule.specs.Stage.{stage}
 use Rattle.schedule.proofs.Cells.{by-radix}
-use Rattle.schedule.proofs.Plans.{use-parts, use-radix, use-radix-some, use-stride, use-stride-some}
+use Rattle.schedule.proofs.Plans.{use-parts, use-radix, use-stride, use-stride-some}
 use Rattle.floats.specs.declared.complex.Complex.{Complex}
 use Rattle.kernel.specs.Floats.{lentAt, stageOf}
 use Rattle.kernel.specs.Parts.{outputOf, Sized, Lending, Done, Blocks, Workable}

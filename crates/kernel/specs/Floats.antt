@@ -5,7 +5,7 @@ use lib.Ieee.{Float}
 use Rattle.plan.specs.Counts.{radix}
 use Rattle.plan.specs.declared.Record.{Record}
 use Rattle.schedule.specs.Plans.{inUse}
-use Rattle.schedule.specs.Stage.{Part, Arith, stage}
+use Rattle.schedule.specs.Stage.{Arith, stage}
 use Rattle.turn.specs.Turns.{turnOf}
 use Rattle.twiddle.specs.Places.{place}
 use Rattle.floats.specs.declared.complex.Complex.{Complex}

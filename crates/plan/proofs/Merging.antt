@@ -25,14 +25,14 @@ pub tally-is : (xs : List ℕ) (a b c d e f : ℕ) → a ≡ countOf 2 xs → b 
 unfolding tally
 tally-is xs a b c d e f p q r s t u = rw (p, q, r, s, t, u)
 
+pub and-false : (b : Bool) → (b && false) ≡ false
+and-false true = refl
+and-false false = refl
+
 pub a-needs : (t : Tally) → (t .fours < 1) ⊎ (t .twos < 1) → applies A t ≡ false
 unfolding applies
 a-needs t (inl h) = simp (lt-leb 1 (t .fours) h)
 a-needs t (inr h) = simp (lt-leb 1 (t .twos) h) (and-false (leb 1 (t .fours)))
-  where
-    and-false : (b : Bool) → (b && false) ≡ false
-    and-false true = refl
-    and-false false = refl
 
 -- The first rule, from what the tests before it found.
 module _ (t : Tally) where

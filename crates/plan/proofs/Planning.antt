@@ -1,20 +1,19 @@
 -- Laws of planning: the answer put together, and the verdict on a record. Assumes nothing.
-use Prim.Native.Nat.{ℕ, _/_, _%_, _<_, _≤_}
+use Prim.Native.Nat.{ℕ, _/_, _≤_}
 use native.Mathlib.Omega.{arith}
 use mathlib.Core.Path.{_≡_, refl, ap, _∙_}
 use mathlib.Core.Bool.{true, false}
 use mathlib.Core.List.{List}
 use lib.ListN.{length, take}
-use borrow.Author.Tests.{eq-eqb, ne-eqb, lt-ltb, le-ltb}
 use Rattle.refusal.specs.declared.Refusal.{Refusal}
-use Rattle.refusal.specs.declared.Refusal.the-variants.{Empty, NoRadix, TooLarge, Odd, NotPlanned}
+use Rattle.refusal.specs.declared.Refusal.the-variants.{NotPlanned}
 use Rattle.refusal.specs.declared.Verdict.the-variants.{Accepted, Refused}
 use Rattle.plan.specs.declared.Record.{Record}
 use Rattle.plan.specs.declared.Radices.{Radices}
 use Rattle.plan.specs.declared.Planned.{Planned}
 use Rattle.plan.specs.declared.inner.merging.Tally.{Tally}
 use Rattle.plan.specs.declared.inner.merging.Merged.{Merged}
-use Rattle.plan.specs.Lists.{product, firstBad, firstOver, padded, listed}
+use Rattle.plan.specs.Lists.{product, padded, listed}
 use Rattle.plan.specs.Half.{half}
 use Rattle.plan.specs.Merging.{tally, total, sorted, mergeAll}
 use Rattle.plan.specs.Record.{planVerdict, factors, recordOf, refusedPlan, acceptedPlan, planned, isPlanned}

@@ -11,7 +11,7 @@ use mathlib.Core.List.{List, [], _∷_}
 use lib.Dec.{eqb, ltb}
 use lib.ListN.{length, getD, take, drop, drop-of-length-le, replicate, length-take}
 use lib.Seq.{take-at, drop-cons}
-use borrow.Author.Tests.{eqb-true, eqb-false, eq-eqb, ne-eqb, ltb-false, lt-ltb, le-ltb, le-leb, lt-leb, leb-true}
+use borrow.Author.Tests.{eqb-true, eqb-false, eq-eqb, ne-eqb, ltb-false, lt-ltb, le-leb, lt-leb, leb-true}
 use Rattle.refusal.proofs.Rows.{accepted-by}
 use Rattle.refusal.specs.declared.Verdict.the-variants.{Accepted}
 use Rattle.plan.specs.Lists.{product, isRadix, firstThat, indexOf, firstBad, firstOver, largest, padded, eqList, runningProduct}
@@ -23,7 +23,7 @@ use Rattle.plan.specs.declared.inner.lists.Running.{Running}
 use Rattle.plan.specs.declared.inner.merging.Tally.{Tally}
 use Rattle.plan.proofs.Tests.{plan-accepted}
 use Rattle.plan.proofs.Lists.{running-all, running-place, length-padded}
-use Rattle.plan.proofs.Merging.{low, Keeps, length-sorted, merged-leaves, closed, none-at, merged-stop}
+use Rattle.plan.proofs.Merging.{and-false, low, Keeps, length-sorted, merged-leaves, closed, none-at, merged-stop}
 use Rattle.plan.proofs.Products.{Radical, radical, radical-none-bad, radical-sorted, over-none-small, small-over-none, entries-few, weight, product-sorted, product-tally, tally-sorted, total-few, weight-tells}
 use Rattle.plan.proofs.Half.{Halved, half-halves}
 
@@ -349,10 +349,6 @@ module _ (k : ℕ) (rs : List ℕ) where
       order-same h a p = simp (← e, p, le-leb k 13 few, eq-eqb (total t) k (sym (length-sorted t) ∙ sym f ∙ g), le-leb (low t) 1 h)
 
 -- ---- the test of a record, as the code makes it
-
-and-false : (b : Bool) → (b && false) ≡ false
-and-false true = refl
-and-false false = refl
 
 pub order-radical : (k : ℕ) (rs : List ℕ) → inOrder k rs ≡ true → firstBad (take k rs) ≡ length (take k rs)
 order-radical k rs e =

@@ -17,7 +17,7 @@ use Rattle.plan.specs.declared.Buffer.the-variants.{Data, Scratchpad}
 use Rattle.plan.specs.declared.Counted.{Counted}
 use Rattle.plan.specs.declared.Located.{Located}
 
--- the radix of stage j
+-- the radix of stage j, 1 past the end of the list
 unfoldable pub radix : List ℕ → ℕ → ℕ
 radix rs j = getD rs j 1
 

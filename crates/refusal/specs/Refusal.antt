@@ -26,7 +26,7 @@ numberOf (Remainder at) = 13
 numberOf Bins = 14
 numberOf Stage = 15
 
--- the place, 0 where the table names none
+-- the place, 0 where the table names none; for 5, for which it names none either, every call puts in 0
 abbrev pub placeOf : Refusal → ℕ
 placeOf Empty = 0
 placeOf (NoRadix at) = at

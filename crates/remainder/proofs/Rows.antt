@@ -6,7 +6,7 @@ use mathlib.Core.Path.{_≡_, refl, sym, ap, _∙_}
 use mathlib.Core.Bool.{Bool, true, false, cond}
 use mathlib.Core.List.{List, [], _∷_}
 use lib.Dec.{ltb}
-use lib.ListN.{length, getD, set}
+use lib.ListN.{getD, set}
 use borrow.Author.Tests.{lt-ltb, le-ltb, ltb-true}
 use Rattle.plan.proofs.Products.{radix-least}
 use Rattle.remainder.specs.Rows.{eight, below, rowOf, twiddledRow, sumTo, storeFrom, Under, Ready}

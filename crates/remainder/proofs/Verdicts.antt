@@ -8,7 +8,6 @@ use lib.Dec.{eqb, ltb}
 use lib.ListN.{length}
 use borrow.Author.Tests.{lt-ltb, le-ltb, ltb-true, ltb-false, eqb-true, eq-eqb, ne-eqb, not-false}
 use Rattle.refusal.specs.declared.Refusal.the-variants.{NotPlanned, Length, Modulus, Base, Remainder, Stage}
-use Rattle.refusal.specs.declared.Verdict.{Verdict}
 use Rattle.refusal.specs.declared.Verdict.the-variants.{Accepted, Refused}
 use Rattle.refusal.proofs.Rows.{accepted-by}
 use Rattle.plan.specs.Lists.{firstThat}

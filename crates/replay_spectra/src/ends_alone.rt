@@ -1,10 +1,11 @@
 // The steps at an end alone: the list, the direction and how many words the twiddles have; the original's words of them; and
 // cases, each with whose twiddles are lent, the kind of the cells, a seed, and a checksum of all cells afterwards.
+use crate::cases::count;
+use crate::cases::differing;
 use crate::lending::is_lending;
 use crate::lending::lend;
 use crate::question::Question;
 use crate::question::asked;
-use crate::rooms::row;
 use ends::inner::cells::postprocess_fft;
 use ends::inner::cells::preprocess_ifft;
 use records::inner::draws::fill;
@@ -12,25 +13,20 @@ use records::inner::draws::is_kind;
 use records::inner::replay::Outcome;
 use records::inner::text::shows;
 use records::inner::text::word;
-use records::inner::words::read;
 use records::inner::words::summed;
 ghost use Prim.Native.Nat.{_≤_};
-ghost use mathlib.Core.Path.{_≡_};
-ghost use lib.ListN.{length};
-
-// How many cases a length has.
-const CASES: u64 = 42;
 
 // How many answers of a record there are, and how many of them are not the library's.
 pub fn answers(line: &[u8], fd: i32) -> Outcome {
+    let all = count(false);
     if line.len() != 24 {
-        return Outcome::Answers(CASES, CASES);
+        return Outcome::Answers(all, all);
     }
     let question = asked(&line[0..16], line[17] == b'F');
     if !is_direction(line[17]) || line[23] != b'\n' || !shows(&line[19..23], question.ends) {
-        return Outcome::Answers(CASES, CASES);
+        return Outcome::Answers(all, all);
     }
-    Outcome::Answers(CASES, differing(question, fd))
+    Outcome::Answers(all, differing(question, false, fd))
 }
 
 // Whether a character names a direction.
@@ -42,56 +38,14 @@ pub fn is_direction(c: u8) -> bool {
     }
 }
 
-// How many answers differ from those of the lines that follow.
-fn differing(question: Question, fd: i32) -> u64 {
-    let count = cell_words(question);
-    let lent = question.ends;
-    if count > 8208 {
-        return CASES;
-    }
-    if lent > 8208 {
-        return CASES;
-    }
-    let mut own = row();
-    let mut other = row();
-    let mut cells = row();
-    follow(
-        question,
-        &mut own[..lent],
-        &mut other[..lent],
-        &mut cells[..count],
-        fd,
-    )
-}
-
-// How many words the cells have.
-fn cell_words(question: Question) -> usize {
-    if question.is_forward {
-        return question.writes;
-    }
-    question.reads
-}
-
-// How many answers differ, with room for the words.
-fn follow(
+// 1 where the library does not make of the cells what the next line shows, and 0 where it does.
+pub fn follows(
     question: Question,
-    own: &mut [f32],
+    own: &[f32],
     other: &mut [f32],
     cells: &mut [f32],
     fd: i32,
-) -> u64 {
-    let is_read = read(fd, own);
-    let mut differ: u64 = 0;
-    let mut k: u64 = 0;
-    while k < CASES {
-        differ += follows(question, own, other, cells, fd);
-        k += 1;
-    }
-    if is_read { differ } else { CASES }
-}
-
-// 1 where the library does not make of the cells what the next line shows, and 0 where it does.
-fn follows(question: Question, own: &[f32], other: &mut [f32], cells: &mut [f32], fd: i32) -> u64
+) -> u64
     ensures { λ r. ⌜ r ≤ 1 ⌝ }
 {
     let mut line = [0u8; 24];

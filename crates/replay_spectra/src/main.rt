@@ -1,6 +1,7 @@
 // Replays recorded spectra: puts each record's question to the library and counts the answers that differ.
 // The records are in the files `forward`, `inverse`, `ends` and `whole`, or in the four files that the arguments name;
 // oracle/src/text.rs says what stands in a record.
+mod cases;
 mod ends_alone;
 mod lending;
 mod question;

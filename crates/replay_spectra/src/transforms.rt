@@ -1,15 +1,14 @@
 // Transforms of a length: the list and how many words its twiddles have; the original's words of them; and cases, each with
 // whose twiddles are lent, the kind of what is read, a seed, how much more than needed is lent, and checksums of the output and of
 // the scratch afterwards. The library is asked each case at every width.
+use crate::cases::count;
+use crate::cases::differing;
 use crate::lending::is_lending;
 use crate::lending::lend;
 use crate::question::Question;
 use crate::question::asked;
 use crate::question::scratched;
 use crate::question::written;
-use crate::rooms::row;
-use crate::rooms::scratch;
-use crate::rooms::twiddles;
 use records::inner::draws::fill;
 use records::inner::draws::is_kind;
 use records::inner::packing::pack;
@@ -18,28 +17,22 @@ use records::inner::text::digit;
 use records::inner::text::shows;
 use records::inner::text::wide;
 use records::inner::text::word;
-use records::inner::words::read;
 use records::inner::words::summed;
 ghost use Prim.Native.Nat.{_≤_};
 ghost use mathlib.Core.Path.{_≡_};
 ghost use lib.ListN.{length};
 
-// How many cases a length has.
-const CASES: u64 = 42;
-
-// How many answers a length has: one for each case and width.
-const ANSWERS: u64 = 126;
-
 // How many answers of a record there are, and how many of them are not the library's.
 pub fn answers(line: &[u8], is_forward: bool, fd: i32) -> Outcome {
+    let all = count(true);
     if line.len() != 28 {
-        return Outcome::Answers(ANSWERS, ANSWERS);
+        return Outcome::Answers(all, all);
     }
     let question = asked(&line[0..16], is_forward);
     if !shows_counts(line, question) {
-        return Outcome::Answers(ANSWERS, ANSWERS);
+        return Outcome::Answers(all, all);
     }
-    Outcome::Answers(ANSWERS, differing(question, fd))
+    Outcome::Answers(all, differing(question, true, fd))
 }
 
 // Whether a record shows how many words the twiddles have.
@@ -51,57 +44,8 @@ fn shows_counts(line: &[u8], question: Question) -> bool
         && shows(&line[23..27], question.ends)
 }
 
-// How many answers differ from those of the lines that follow.
-fn differing(question: Question, fd: i32) -> u64 {
-    let reads = question.reads;
-    let lent = question.twiddles;
-    if reads > 8208 {
-        return ANSWERS;
-    }
-    if lent > 38656 {
-        return ANSWERS;
-    }
-    let mut own = twiddles();
-    let mut other = twiddles();
-    let mut packed = twiddles();
-    let mut input = row();
-    let mut output = row();
-    let mut room = scratch();
-    follow(
-        question,
-        &mut own[..lent],
-        &mut other[..lent],
-        &mut packed[..lent],
-        &mut input[..reads],
-        &mut output,
-        &mut room,
-        fd,
-    )
-}
-
-// The same, with room for the words.
-fn follow(
-    question: Question,
-    own: &mut [f32],
-    other: &mut [f32],
-    packed: &mut [f32],
-    input: &mut [f32],
-    output: &mut [f32],
-    scratch: &mut [f32],
-    fd: i32,
-) -> u64 {
-    let is_read = read(fd, own);
-    let mut differ: u64 = 0;
-    let mut k: u64 = 0;
-    while k < CASES {
-        differ += follows(question, own, other, packed, input, output, scratch, fd);
-        k += 1;
-    }
-    if is_read { differ } else { ANSWERS }
-}
-
 // At how many widths the library does not leave what the next line shows.
-fn follows(
+pub fn follows(
     question: Question,
     own: &[f32],
     other: &mut [f32],

@@ -69,7 +69,7 @@ fn next(kind: Kind, fd: i32) -> Outcome {
 fn next_stage(fd: i32) -> Outcome {
     let mut line = [0u8; 26];
     match started(fd, &mut line) {
-        Head::Line => judged(stages::agrees(&line, fd)),
+        Head::Line => judged(stages::agrees(&line, false, fd)),
         Head::End => Outcome::End,
         Head::Cut => Outcome::Cut,
     }
@@ -79,7 +79,7 @@ fn next_stage(fd: i32) -> Outcome {
 fn next_cells(fd: i32) -> Outcome {
     let mut line = [0u8; 26];
     match started(fd, &mut line) {
-        Head::Line => judged(cells::agrees(&line, fd)),
+        Head::Line => judged(stages::agrees(&line, true, fd)),
         Head::End => Outcome::End,
         Head::Cut => Outcome::Cut,
     }

@@ -1,5 +1,6 @@
 // A stage: the list, its number, the width and how many words its twiddles have; the original's words of them; and eight
 // cases with cells of a kind drawn from a seed, the original's twiddles or drawn ones, and a checksum of what the stage writes.
+use crate::cells::follow_cells;
 use crate::question::Question;
 use crate::question::asked;
 use crate::rooms::cells;
@@ -10,14 +11,12 @@ use records::inner::text::shows;
 use records::inner::text::word;
 use records::inner::words::read;
 use records::inner::words::summed;
-ghost use mathlib.Core.Path.{_≡_};
-ghost use lib.ListN.{length};
 
 // How many cases a stage has.
 const CASES: usize = 8;
 
-// Whether the library does a record's stage as the lines of the file say.
-pub fn agrees(line: &[u8], fd: i32) -> bool {
+// Whether the library does a record's stage as the lines of the file say: its cases, or its cells.
+pub fn agrees(line: &[u8], has_cells: bool, fd: i32) -> bool {
     if line.len() != 26 {
         return false;
     }
@@ -34,18 +33,39 @@ pub fn agrees(line: &[u8], fd: i32) -> bool {
     let mut other = twiddles();
     let mut input = cells();
     let mut output = cells();
+    let mut expected = cells();
     follow(
         question,
+        has_cells,
         &mut own[..lent_count],
         &mut other[..lent_count],
         &mut input[..count],
         &mut output[..count],
+        &mut expected[..count],
         fd,
     )
 }
 
-// Whether the lines that follow show twiddles and then what the stage writes in every case.
+// The same, with room for the words.
 fn follow(
+    question: Question,
+    has_cells: bool,
+    own: &mut [f32],
+    other: &mut [f32],
+    input: &mut [f32],
+    output: &mut [f32],
+    expected: &mut [f32],
+    fd: i32,
+) -> bool {
+    if has_cells {
+        follow_cells(question, own, input, output, expected, fd)
+    } else {
+        follow_cases(question, own, other, input, output, fd)
+    }
+}
+
+// Whether the lines that follow show twiddles and then what the stage writes in every case.
+fn follow_cases(
     question: Question,
     own: &mut [f32],
     other: &mut [f32],

@@ -1,18 +1,21 @@
 // A filling: the list, the width, the direction, how many words the stages and the ends have, the first and the last of
-// each, how many whole quarters of each kind there are, and a checksum.
+// each, how many whole quarters of each kind there are, and a checksum; or the list, the width, the direction, how many words
+// there are, and then the words.
 use crate::question::Question;
 use crate::question::asked;
+use crate::words::shows_words;
 use records::inner::bits::bits;
 use records::inner::text::shows;
 use records::inner::text::shows_none;
 use records::inner::text::shows_word;
 use records::inner::words::summed_on;
 ghost use mathlib.Core.Path.{_≡_};
+ghost use Prim.Native.Nat.{_≤_};
 ghost use lib.ListN.{length};
 
-// Whether the library fills a record's list as the record says.
-pub fn agrees(line: &[u8]) -> bool {
-    if line.len() != 99 {
+// Whether the library fills a record's list as the record, or the file after it, says.
+pub fn agrees(line: &[u8], fd: i32) -> bool {
+    if line.len() < 32 {
         return false;
     }
     let question = asked(&line[0..18]);
@@ -31,28 +34,37 @@ pub fn agrees(line: &[u8]) -> bool {
         question,
         &mut stage[..stage_count],
         &mut end[..end_count],
+        fd,
     )
 }
 
 // Zeros for the words of the stages: as many as a length that divides 6,720 has at most.
-pub fn stage_room() -> [f32; 22056]
+fn stage_room() -> [f32; 22056]
     ensures { λ r. ⌜ 22056 ≡ length r ⌝ }
 {
     [0.0; 22056]
 }
 
 // Zeros for the words of the ends.
-pub fn end_room() -> [f32; 3358]
+fn end_room() -> [f32; 3358]
     ensures { λ r. ⌜ 3358 ≡ length r ⌝ }
 {
     [0.0; 3358]
 }
 
 // The same, with room for the words.
-fn answers(line: &[u8], question: Question, stage: &mut [f32], end: &mut [f32]) -> bool
-    requires { ⌜ length (now line) ≡ 99 ⌝ }
+fn answers(line: &[u8], question: Question, stage: &mut [f32], end: &mut [f32], fd: i32) -> bool
+    requires { ⌜ 32 ≤ length (now line) ⌝ }
 {
-    filled(question, line[19], stage, end) && shows_filling(line, stage, end)
+    filled(question, line[19], stage, end) && is_shown(line, stage, end, fd)
+}
+
+// Whether a record of either kind shows the words of a filling.
+fn is_shown(line: &[u8], stage: &[f32], end: &[f32], fd: i32) -> bool {
+    if line.len() == 32 {
+        return shows_words(line, stage, end, fd);
+    }
+    line.len() == 99 && shows_filling(line, stage, end)
 }
 
 // Whether a record shows the words of a filling.
@@ -69,7 +81,7 @@ fn shows_filling(line: &[u8], stage: &[f32], end: &[f32]) -> bool
 }
 
 // Two words for each twiddle, as far as any plan has them.
-pub fn doubled(count: usize) -> usize {
+fn doubled(count: usize) -> usize {
     if count > 17280 {
         return 99999;
     }
@@ -77,7 +89,7 @@ pub fn doubled(count: usize) -> usize {
 }
 
 // Whether the library fills what is asked, in a direction, into the slices lent.
-pub fn filled(question: Question, direction: u8, stage: &mut [f32], end: &mut [f32]) -> bool {
+fn filled(question: Question, direction: u8, stage: &mut [f32], end: &mut [f32]) -> bool {
     let plan = question.plan;
     let width = question.width;
     if direction == b'F' {

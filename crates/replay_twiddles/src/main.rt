@@ -92,7 +92,7 @@ fn next_places(fd: i32) -> Outcome {
 fn next_filling(fd: i32) -> Outcome {
     let mut line = [0u8; 99];
     match started(fd, &mut line) {
-        Head::Line => judged(fillings::agrees(&line)),
+        Head::Line => judged(fillings::agrees(&line, fd)),
         Head::End => Outcome::End,
         Head::Cut => Outcome::Cut,
     }
@@ -102,7 +102,7 @@ fn next_filling(fd: i32) -> Outcome {
 fn next_words(fd: i32) -> Outcome {
     let mut line = [0u8; 32];
     match started(fd, &mut line) {
-        Head::Line => judged(words::agrees(&line, fd)),
+        Head::Line => judged(fillings::agrees(&line, fd)),
         Head::End => Outcome::End,
         Head::Cut => Outcome::Cut,
     }

@@ -1,49 +1,16 @@
 // The words of a filling: the list, the width, the direction and how many words the stages and the ends have; then the
 // words as the original has them. Its words of whole quarters are others than the library's, each in its own way.
-use crate::fillings::doubled;
-use crate::fillings::end_room;
-use crate::fillings::filled;
-use crate::fillings::stage_room;
-use crate::question::Question;
-use crate::question::asked;
 use records::inner::bits::bits;
 use records::inner::text::shows;
 use records::inner::text::shows_word;
 ghost use mathlib.Core.Path.{_≡_};
 ghost use lib.ListN.{length};
 
-// Whether the library fills a record's list with the words that follow in the file.
-pub fn agrees(line: &[u8], fd: i32) -> bool {
-    if line.len() != 32 {
-        return false;
-    }
-    let question = asked(&line[0..18]);
-    let stage_count = doubled(question.stage);
-    let end_count = doubled(question.end);
-    if stage_count > 22056 {
-        return false;
-    }
-    if end_count > 3358 {
-        return false;
-    }
-    let mut stage = stage_room();
-    let mut end = end_room();
-    answers(
-        line,
-        question,
-        &mut stage[..stage_count],
-        &mut end[..end_count],
-        fd,
-    )
-}
-
-// The same, with room for the words.
-fn answers(line: &[u8], question: Question, stage: &mut [f32], end: &mut [f32], fd: i32) -> bool
+// Whether a record shows how many words there are, and the next lines the words.
+pub fn shows_words(line: &[u8], stage: &[f32], end: &[f32], fd: i32) -> bool
     requires { ⌜ length (now line) ≡ 32 ⌝ }
 {
-    filled(question, line[19], stage, end)
-        && shows_counts(line, stage, end)
-        && follow(stage, end, fd)
+    shows_counts(line, stage, end) && follow(stage, end, fd)
 }
 
 // Whether a record shows how many words there are.
@@ -55,13 +22,13 @@ fn shows_counts(line: &[u8], stage: &[f32], end: &[f32]) -> bool
 
 // Whether the next lines show the original's words, which are all read.
 fn follow(stage: &[f32], end: &[f32], fd: i32) -> bool {
-    let is_stage = follow_stage(stage, fd);
-    let is_end = follow_end(end, fd);
+    let is_stage = follow_words(stage, fd);
+    let is_end = follow_words(end, fd);
     is_stage && is_end
 }
 
-// Whether the next lines show the original's words of the twiddles of the stages.
-fn follow_stage(words: &[f32], fd: i32) -> bool {
+// Whether the next lines show the original's words of some twiddles.
+fn follow_words(words: &[f32], fd: i32) -> bool {
     let mut is_same = true;
     let mut i: usize = 0;
     while i < words.len() / 2 {
@@ -70,19 +37,6 @@ fn follow_stage(words: &[f32], fd: i32) -> bool {
         let is_re = follows(original_re(re, im), fd);
         let is_im = follows(original_im(re, im), fd);
         if !is_re || !is_im {
-            is_same = false;
-        }
-        i += 1;
-    }
-    is_same
-}
-
-// Whether the next lines show the words of the ends, which have no whole quarter.
-fn follow_end(words: &[f32], fd: i32) -> bool {
-    let mut is_same = true;
-    let mut i: usize = 0;
-    while i < words.len() {
-        if !follows(bits(words[i]), fd) {
             is_same = false;
         }
         i += 1;

@@ -116,6 +116,21 @@ module _ {A : Type 0} (f : ℕ → List A → List A) (xs ys ys′ : List A) whe
   driven-pad zero l = absurd (omega arith)
   driven-pad (suc k) l = ap (copiedBy (eqb (suc k) 1)) (alternated-pad k)
 
+-- stages that make the same, driven alike, leave the same
+module _ {A : Type 0} (f g : ℕ → List A → List A) (b : Two A) where
+  alternated-same : (k : ℕ) → ((j : ℕ) → j < k → (xs : List A) → f j xs ≡ g j xs) → alternated f k b ≡ alternated g k b
+  unfolding alternated
+  alternated-same zero e = refl
+  alternated-same (suc k) e = ap (across (eqb (k % 2) 0) (f k)) (alternated-same k (λ j l. e j (omega arith))) ∙ go (eqb (k % 2) 0) (alternated g k b)
+    where
+      go : (t : Bool) (c : Two A) → across t (f k) c ≡ across t (g k) c
+      go true c = ap (λ (ys : List A). (c .0, ys)) (e k (omega arith) (c .0))
+      go false c = ap (λ (ys : List A). (ys, c .1)) (e k (omega arith) (c .1))
+
+  pub driven-same : (count : ℕ) → ((j : ℕ) → j < count → (xs : List A) → f j xs ≡ g j xs) → driven f count b ≡ driven g count b
+  unfolding driven
+  driven-same count e = ap (copiedBy (eqb count 1)) (alternated-same count e)
+
 -- ---- copying, cell by cell
 
 -- the first n cells are copied

@@ -1,31 +1,24 @@
 -- Laws of a scratch: its Data, its Scratchpad and the rest, what replaces them, and what the stages leave. Assumes nothing.
 use Prim.Native.Nat.{ℕ, _+_, _-_, _*_, _≤_, _<_}
-use native.Mathlib.Nat.{zero-add}
 use native.Mathlib.Omega.{arith}
-use mathlib.Core.Path.{_≡_, refl, sym, ap, ap₂, _∙_}
+use mathlib.Core.Path.{_≡_, sym, ap, ap₂, _∙_}
 use mathlib.Core.List.{List, _++_, append-assoc, append-nil}
 use borrow.Rule.Slice.PartMut.{putMid}
 use lib.Ieee.{Float, nan}
 use lib.ListN.{length, take, drop, length-append, length-drop, take-append-drop, drop-of-length-le, List·getD-append}
 use lib.Seq.{length-take-le, length-front, take-at, drop-at, drop-drop, drop-append-le, take-append-le}
-use Rattle.plan.specs.declared.Buffer.{Buffer}
-use Rattle.plan.specs.declared.Buffer.the-variants.{Data, Scratchpad}
 use Rattle.plan.specs.declared.Record.{Record}
-use Rattle.schedule.specs.Buffers.{Two, driven, heldIn}
+use Rattle.schedule.specs.Buffers.{Two, driven}
 use Rattle.schedule.proofs.Buffers.{driven-none, driven-long, driven-pad}
 use Rattle.floats.specs.Complexes.{cx, cell}
 use Rattle.stage.specs.Runs.{ownOf, stageIn, runOf}
 use Rattle.stage.proofs.Runs.{length-made}
-use Rattle.ends.specs.Ends.{pasted}
+use Rattle.floats.specs.Words.{pasted}
 use Rattle.spectrum.specs.Transforms.{dataOf, padOf, withBoth}
 
 -- the cells of a row are those of its beginning
 pub cell-front : (xs ys : List Float) (j : ℕ) → 2 * j + 1 < length xs → cell (xs ++ ys) j ≡ cell xs j
 cell-front xs ys j l = ap₂ cx (List·getD-append xs ys nan (2 * j) (omega arith)) (List·getD-append xs ys nan (2 * j + 1) l)
-
--- pasted to the front
-pub front-pasted : (ys xs : List Float) (n : ℕ) → length xs ≡ n → pasted ys 0 xs ≡ xs ++ drop n ys
-front-pasted ys xs n e = ap (λ (k : ℕ). xs ++ drop k ys) (zero-add (length xs) ∙ e)
 
 -- the first words replaced by as many, the row is as long as it was
 pub front-room : (h : ℕ) (d s : List Float) → length d ≡ length (take (2 * h) s) → 2 * h ≤ length s → (length (d ++ drop (2 * h) s) ≡ length s) × (length (dataOf h (d ++ drop (2 * h) s)) ≡ 2 * h)

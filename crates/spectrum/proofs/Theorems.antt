@@ -1,11 +1,9 @@
 -- What a reader opens first: lent the same words for each stage, iteration and number, at any two widths, both directions leave the same output
 -- and the same scratch; and a refused call writes nothing. That two outcomes of a call are equal is in proofs/Unique.antt. Assumes nothing.
-use Prim.Native.Nat.{ℕ, zero, suc, _-_, _*_, _%_, _<_}
-use native.Mathlib.Omega.{arith}
+use Prim.Native.Nat.{ℕ, _-_, _*_, _<_}
 use mathlib.Core.Path.{_≡_, refl, sym, ap, _∙_}
-use mathlib.Core.Bool.{Bool, true, false}
+use mathlib.Core.Bool.{true}
 use mathlib.Core.List.{List, _++_}
-use lib.Dec.{eqb}
 use lib.Ieee.{Float}
 use lib.ListN.{length}
 use Rattle.refusal.specs.Refusal.{left}
@@ -16,31 +14,15 @@ use Rattle.refusal.proofs.Rows.{settled}
 use Rattle.plan.specs.Counts.{resultIn}
 use Rattle.plan.specs.Record.{isPlanned}
 use Rattle.plan.specs.declared.Record.{Record}
-use Rattle.schedule.specs.Buffers.{Two, across, alternated, copiedBy, driven, heldIn}
+use Rattle.schedule.specs.Buffers.{Two, heldIn}
+use Rattle.schedule.proofs.Buffers.{driven-same}
 use Rattle.floats.specs.Complexes.{paired, flat}
 use Rattle.stage.specs.Runs.{stageIn, runOf, lentTo}
 use Rattle.stage.proofs.Same.{AgreeAll, plan-agree, stage-lent}
-use Rattle.ends.specs.Ends.{postprocess-fft, conjugated, zeros}
-use Rattle.spectrum.specs.Calls.{Forwards, Inverts, forwardVerdict, inverseVerdict}
-use Rattle.spectrum.specs.Parts.{Forwardable, Invertible}
-use Rattle.spectrum.specs.Transforms.{Slices, withBoth, forwardRun, forwardOf, preparedOf, inverseRun, restored, inverseOf}
+use Rattle.ends.specs.Ends.{postprocess-fft, zeros}
+use Rattle.spectrum.specs.Calls.{Forwards, Inverts}
+use Rattle.spectrum.specs.Transforms.{Slices, withBoth, forwardRun, forwardOf, inverseRun, restored, inverseOf}
 use Rattle.spectrum.proofs.Verdicts.{forwardable, invertible}
-
--- ---- stages that make the same, driven alike
-
-module _ {A : Type 0} (f g : ℕ → List A → List A) (b : Two A) where
-  alternated-same : (k : ℕ) → ((j : ℕ) → j < k → (xs : List A) → f j xs ≡ g j xs) → alternated f k b ≡ alternated g k b
-  unfolding alternated
-  alternated-same zero e = refl
-  alternated-same (suc k) e = ap (across (eqb (k % 2) 0) (f k)) (alternated-same k (λ j l. e j (omega arith))) ∙ go (eqb (k % 2) 0) (alternated g k b)
-    where
-      go : (t : Bool) (c : Two A) → across t (f k) c ≡ across t (g k) c
-      go true c = ap (λ (ys : List A). (c .0, ys)) (e k (omega arith) (c .0))
-      go false c = ap (λ (ys : List A). (ys, c .1)) (e k (omega arith) (c .1))
-
-  driven-same : (count : ℕ) → ((j : ℕ) → j < count → (xs : List A) → f j xs ≡ g j xs) → driven f count b ≡ driven g count b
-  unfolding driven
-  driven-same count e = ap (copiedBy (eqb count 1)) (alternated-same count e)
 
 -- ---- widths
 

@@ -8,7 +8,7 @@ use lib.Dec.{eqb}
 use borrow.Rule.Slice.PartMut.{putMid}
 use lib.Ieee.{Float}
 use lib.ListN.{length, take, drop, length-append, length-drop}
-use lib.Seq.{length-take-le, take-at, drop-at, drop-drop}
+use lib.Seq.{take-at, drop-at, drop-drop}
 use borrow.Author.Tests.{eqb-true}
 use Rattle.plan.specs.Counts.{resultIn, endCount}
 use Rattle.plan.specs.Record.{isPlanned}
@@ -18,14 +18,16 @@ use Rattle.plan.specs.declared.Record.{Record}
 use Rattle.plan.proofs.Counts.{plan-half, plan-sized}
 use Rattle.schedule.specs.Buffers.{Two, heldIn}
 use Rattle.stage.specs.Runs.{runOf}
-use Rattle.ends.specs.Ends.{ifftSteps, postprocess-fft, preprocess-ifft, conjugated, zeros, pasted}
+use Rattle.ends.specs.Ends.{ifftSteps, postprocess-fft, preprocess-ifft, conjugated, zeros}
+use Rattle.floats.specs.Words.{pasted}
+use Rattle.floats.proofs.Words.{front-pasted}
 use Rattle.ends.specs.Parts.{Endable}
 use Rattle.ends.proofs.Cells.{fft-reads, length-ended, length-conjugated}
 use Rattle.spectrum.specs.Transforms.{dataOf, padOf, withBoth, forwardRun, forwardOf, preparedOf, inverseRun, restored, inverseOf}
-use Rattle.spectrum.proofs.Scratch.{cell-front, front-pasted, data-length, pad-length, pad-part, pad-replaced, data-replaced, tail-replaced, tail-length, front-data, front-pad, front-rest, both-data, both-pad, both-rest, run-long}
+use Rattle.spectrum.proofs.Scratch.{cell-front, data-length, pad-length, pad-part, pad-replaced, data-replaced, tail-replaced, tail-length, front-data, front-pad, front-rest, both-data, both-pad, both-rest, run-long}
 
 -- a result is one of two buffers of a length
-held-long : (n : ℕ) (which : Buffer) (b : Two Float) → length (b .0) ≡ n → length (b .1) ≡ n → length (heldIn which b) ≡ n
+pub held-long : (n : ℕ) (which : Buffer) (b : Two Float) → length (b .0) ≡ n → length (b .1) ≡ n → length (heldIn which b) ≡ n
 held-long n Data b l m = l
 held-long n Scratchpad b l m = m
 

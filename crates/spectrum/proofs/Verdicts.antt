@@ -1,16 +1,14 @@
 -- Laws of the verdicts: which row decides, and what an accepted call tells. Assumes nothing.
-use Prim.Native.Nat.{ℕ, zero, suc, _+_, _-_, _*_, _/_, _%_, _≤_, _<_}
-use native.Mathlib.Nat.{suc-add, zero-add}
+use Prim.Native.Nat.{ℕ, _+_, _-_, _*_, _≤_, _<_}
 use native.Mathlib.Omega.{arith}
 use native.Mathlib.Decide.{ℕ-discrete}
-use mathlib.Core.Path.{_≡_, refl, sym, ap, _∙_}
-use mathlib.Core.Bool.{Bool, true, false, cond, not}
-use mathlib.Core.List.{List, [], _∷_, _++_}
+use mathlib.Core.Path.{_≡_, sym, ap, _∙_}
+use mathlib.Core.Bool.{Bool, true, false, not}
+use mathlib.Core.List.{List, _++_}
 use lib.Dec.{eqb, ltb}
 use lib.Ieee.{Float}
 use lib.ListN.{length, length-append}
 use borrow.Author.Tests.{lt-ltb, le-ltb, ltb-false, eqb-true, eq-eqb, ne-eqb, not-false, not-true}
-use Rattle.refusal.specs.Refusal.{verdict}
 use Rattle.refusal.specs.declared.Refusal.{Refusal}
 use Rattle.refusal.specs.declared.Refusal.the-variants.{NotPlanned, Width, Length, Number, Twiddle}
 use Rattle.refusal.specs.declared.Verdict.{Verdict}
@@ -21,7 +19,8 @@ use Rattle.plan.specs.Record.{isPlanned}
 use Rattle.plan.specs.declared.Record.{Record}
 use Rattle.twiddle.specs.Calls.{isWidth}
 use Rattle.twiddle.proofs.Verdicts.{width-bounds}
-use Rattle.floats.specs.Scan.{fits, firstNot, firstUnfit}
+use Rattle.floats.specs.Scan.{fits, firstUnfit}
+use Rattle.floats.proofs.Scan.{joined-first, joined-second}
 use Rattle.spectrum.specs.Calls.{binWords, sizeRows, numberRows, sizeVerdict, numberVerdict, lentVerdict}
 use Rattle.spectrum.specs.Parts.{Forwardable, Invertible}
 use Rattle.spectrum.proofs.Transforms.{plan-twice}
@@ -33,26 +32,6 @@ same-eqb a b c d f g = pick (ℕ-discrete a b)
     pick : Dec (a ≡ b) → eqb a b ≡ eqb c d
     pick (yes e) = eq-eqb a b e ∙ sym (eq-eqb c d (f e))
     pick (no e) = ne-eqb a b e ∙ sym (ne-eqb c d (λ h. e (g h)))
-
--- ---- the first unfit number of two rows joined
-
-joined-first : (f : Float → Bool) (xs ys : List Float) → firstNot f xs < length xs → firstNot f (xs ++ ys) ≡ firstNot f xs
-joined-first f [] ys l = absurd (omega arith)
-joined-first f (x ∷ xs) ys l = go (f x) l (λ m. joined-first f xs ys m)
-  where
-    go : (b : Bool) → cond b (suc (firstNot f xs)) 0 < suc (length xs) → (firstNot f xs < length xs → firstNot f (xs ++ ys) ≡ firstNot f xs)
-        → cond b (suc (firstNot f (xs ++ ys))) 0 ≡ cond b (suc (firstNot f xs)) 0
-    go true l e = ap suc (e (omega arith))
-    go false l e = refl
-
-joined-second : (f : Float → Bool) (xs ys : List Float) → length xs ≤ firstNot f xs → firstNot f (xs ++ ys) ≡ length xs + firstNot f ys
-joined-second f [] ys l = sym (zero-add (firstNot f ys))
-joined-second f (x ∷ xs) ys l = go (f x) l (λ m. joined-second f xs ys m)
-  where
-    go : (b : Bool) → suc (length xs) ≤ cond b (suc (firstNot f xs)) 0 → (length xs ≤ firstNot f xs → firstNot f (xs ++ ys) ≡ length xs + firstNot f ys)
-        → cond b (suc (firstNot f (xs ++ ys))) 0 ≡ suc (length xs) + firstNot f ys
-    go true l e = ap suc (e (omega arith)) ∙ sym (suc-add (length xs) (firstNot f ys))
-    go false l e = absurd (omega arith)
 
 -- ---- which row decides
 

@@ -3,7 +3,7 @@
 use Prim.Native.Nat.{ℕ, _+_, _-_, _*_}
 use mathlib.Core.List.{List, _++_}
 use lib.Ieee.{Float}
-use lib.ListN.{length, take, drop}
+use lib.ListN.{take, drop}
 use Rattle.plan.specs.Counts.{resultIn}
 use Rattle.plan.specs.declared.Buffer.{Buffer}
 use Rattle.plan.specs.declared.Buffer.the-variants.{Data, Scratchpad}

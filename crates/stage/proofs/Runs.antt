@@ -12,12 +12,12 @@ use Rattle.plan.specs.declared.Record.{Record}
 use Rattle.plan.proofs.Counts.{start-next}
 use Rattle.schedule.specs.Buffers.{Two, alternated, heldIn}
 use Rattle.schedule.specs.Plans.{inUse}
-use Rattle.schedule.specs.Stage.{plain, stage}
+use Rattle.schedule.specs.Stage.{stage}
 use Rattle.schedule.proofs.Buffers.{both-long}
 use Rattle.schedule.proofs.Cells.{length-stage}
 use Rattle.twiddle.proofs.Counts.{start-up}
 use Rattle.floats.proofs.Flat.{length-flat}
-use Rattle.kernel.specs.Floats.{floats, stageOf}
+use Rattle.kernel.specs.Floats.{stageOf}
 use Rattle.kernel.specs.Parts.{Workable}
 use Rattle.stage.specs.Runs.{ownOf, stageIn, runOf, Drivable, Steppable}
 

@@ -10,7 +10,7 @@ use lib.Ieee.{Float, nan}
 use lib.ListN.{length, getD, drop}
 use lib.Seq.{getD-take, getD-drop}
 use borrow.Author.Tests.{eqb-true}
-use Rattle.plan.specs.Counts.{radix, stride, twiddleCount, twiddleStart, stageTwiddles, resultIn}
+use Rattle.plan.specs.Counts.{radix, stride, twiddleCount, twiddleStart, resultIn}
 use Rattle.plan.specs.Lists.{product}
 use Rattle.plan.specs.Record.{isPlanned}
 use Rattle.plan.specs.declared.Record.{Record}
@@ -23,7 +23,7 @@ use Rattle.schedule.proofs.Cells.{iteration-lt, tabulate-same}
 use Rattle.schedule.proofs.Plans.{use-parts, use-radix, use-radix-some, use-stride-some}
 use Rattle.twiddle.specs.Places.{place}
 use Rattle.floats.specs.declared.complex.Complex.{Complex}
-use Rattle.floats.specs.Complexes.{cx, times, blank, cell, paired, flat}
+use Rattle.floats.specs.Complexes.{cx, times, cell, paired, flat}
 use Rattle.floats.proofs.Flat.{paired-flat, flat-paired}
 use Rattle.kernel.specs.Floats.{floats, lentAt, stageOf}
 use Rattle.kernel.proofs.Kernel.{total-same}

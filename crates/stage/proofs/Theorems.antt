@@ -1,10 +1,9 @@
 -- What a reader opens first: a stage's output does not depend on the width its twiddles are packed for; with filled twiddles a stage and a run
 -- are the schedule whose twiddles are its own turns; and a refused stage writes nothing. That two outcomes of a call are equal is `Stages-one`
 -- of proofs/Unique.antt. Assumes nothing.
-use Prim.Native.Nat.{ℕ, _+_, _*_, _/_, _≤_, _<_}
+use Prim.Native.Nat.{ℕ, _*_, _/_, _<_}
 use native.Mathlib.Omega.{arith}
-use mathlib.Core.Path.{_≡_, refl, sym, ap, ap₂, _∙_}
-use mathlib.Core.Bool.{true}
+use mathlib.Core.Path.{_≡_, sym, ap, ap₂, _∙_}
 use mathlib.Core.List.{List}
 use lib.Ieee.{Float, nan}
 use lib.ListN.{length}
@@ -25,8 +24,8 @@ use Rattle.twiddle.proofs.Verdicts.{Taken, taken, width-bounds}
 use Rattle.floats.specs.Complexes.{cx, paired, flat}
 use Rattle.kernel.specs.Floats.{floats, lentAt, stageOf}
 use Rattle.kernel.specs.Parts.{Workable}
-use Rattle.stage.specs.Calls.{Stages, stageVerdict}
-use Rattle.stage.specs.Runs.{ownOf, stageIn, runOf, lentTo, turning, Drivable}
+use Rattle.stage.specs.Calls.{Stages}
+use Rattle.stage.specs.Runs.{ownOf, stageIn, runOf, lentTo, turning}
 use Rattle.stage.proofs.Same.{Agree, AgreeAll, plan-agree, run-agree, stage-lent, run-lent}
 use Rattle.stage.proofs.Verdicts.{stage-workable}
 

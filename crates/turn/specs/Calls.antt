@@ -23,7 +23,7 @@ part t L = record { t = t; L = L }
 unfoldable pub turnVerdict : (L : ℕ) → Verdict
 turnVerdict L = verdict (not (housed L) ⇒ NotHoused ∷ [])
 
--- the turn of an accepted call; of a refused one, none
+-- the turn of an accepted call; of a refused one, a turn by nothing
 abbrev pub given : Verdict → Turn → Turn
 given Accepted turn = turn
 given (Refused why) turn = Zero

@@ -8,7 +8,6 @@ use lib.Ieee.{Float, nan}
 use lib.ListN.{length}
 use Rattle.turn.specs.Turns.{turnAt, wordsOf}
 use Rattle.twiddle.specs.Calls.{Shape, Lanes, Turnable}
-use Rattle.twiddle.specs.Places.{place}
 use Rattle.twiddle.specs.Twiddles.{twiddle}
 use Rattle.twiddle.specs.Words.{putPairs}
 use Rattle.twiddle.specs.declared.inner.stages.Lane.{Lane}

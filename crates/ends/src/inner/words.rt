@@ -1,10 +1,10 @@
-// Rows of words: conjugated cell by cell, copied, and cleared.
+// Rows of words: conjugated cell by cell, and cleared.
 use floats::inner::cells::get;
 use floats::inner::cells::put;
 ghost use mathlib.Core.Path.{_≡_};
-ghost use Prim.Native.Nat.{_+_, _*_, _≤_};
+ghost use Prim.Native.Nat.{_*_, _≤_};
 ghost use lib.ListN.{length};
-ghost use Rattle.ends.specs.Ends.{conjugated, pasted, zeros};
+ghost use Rattle.ends.specs.Ends.{conjugated, zeros};
 
 // Each of h cells is conjugated.
 pub fn conjugate(cells: &mut [f32], h: usize)
@@ -15,18 +15,6 @@ pub fn conjugate(cells: &mut [f32], h: usize)
     while i < h {
         let z = get(cells, i);
         put(cells, i, z.conj());
-        i += 1;
-    }
-}
-
-// Every word of src, into dst from `at` on.
-pub fn paste(src: &[f32], dst: &mut [f32], at: usize)
-    requires { ⌜ at + length (now src) ≤ length (now dst) ⌝ }
-    ensures { λ _. ⌜ now (dst .exit) ≡ pasted (now (dst .entry)) at (now (src .entry)) ⌝ }
-{
-    let mut i: usize = 0;
-    while i < src.len() {
-        dst[at + i] = src[i];
         i += 1;
     }
 }

@@ -3,7 +3,6 @@ use crate::inner::kernel::cells;
 use crate::inner::kernel::outputs;
 use floats::complex::Complex;
 use floats::inner::cells::put;
-ghost use mathlib.Core.Path.{_≡_};
 ghost use mathlib.Core.Bool.{true};
 ghost use Prim.Native.Nat.{ℕ, _+_, _*_, _≤_};
 ghost use lib.ListN.{length, getD};

@@ -1,7 +1,6 @@
 // The lent twiddles of sixteen iterations, fetched from their places at any width, one iteration after the other.
 use floats::inner::cells::get;
 use floats::inner::cells::put;
-ghost use mathlib.Core.Path.{_≡_};
 ghost use Prim.Native.Nat.{ℕ, _+_, _-_, _*_, _<_, _≤_};
 ghost use lib.ListN.{length};
 ghost use Rattle.floats.specs.Complexes.{cell};

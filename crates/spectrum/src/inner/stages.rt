@@ -2,7 +2,7 @@
 // between Data and the first words of another buffer, which are then copied.
 use ends::inner::cells::preprocess_ifft;
 use ends::inner::words::conjugate;
-use ends::inner::words::paste;
+use floats::inner::words::paste;
 use plan::Buffer;
 use plan::Record;
 use stage::inner::drive::all;

@@ -5,7 +5,7 @@ use crate::inner::stages::restore;
 use crate::inner::stages::stages;
 use ends::inner::cells::postprocess_fft;
 use ends::inner::words::clear;
-use ends::inner::words::paste;
+use floats::inner::words::paste;
 use plan::Buffer;
 use plan::Record;
 ghost use mathlib.Core.Path.{_≡_};

@@ -7,7 +7,6 @@ use refusal::Refusal;
 use refusal::Verdict;
 use twiddle::inner::check::is_width;
 ghost use mathlib.Core.Path.{_≡_};
-ghost use lib.ListN.{length};
 ghost use Rattle.stage.specs.Calls.{sizeVerdict, numberVerdict, stageVerdict};
 
 // Refusals 5, 15, 6 and 8, in this order, of slices of so many words.

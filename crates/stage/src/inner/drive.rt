@@ -1,4 +1,5 @@
 // All stages of a run, from one buffer to the other and back.
+use floats::inner::words::paste;
 use kernel::inner::stage::work;
 use plan::Buffer;
 use plan::Record;
@@ -48,18 +49,6 @@ fn drive(plan: Record, width: usize, data: &mut [f32], scratch: &mut [f32], twid
     }
 }
 
-// Every word of src, into dst.
-fn copy(src: &[f32], dst: &mut [f32])
-    requires { ⌜ length (now dst) ≡ length (now src) ⌝ }
-    ensures { λ _. ⌜ now (dst .exit) ≡ now (src .entry) ⌝ }
-{
-    let mut i: usize = 0;
-    while i < src.len() {
-        dst[i] = src[i];
-        i += 1;
-    }
-}
-
 // A run of an accepted plan: its stages in turn, and a single one copied back. Answers which buffer holds the result.
 pub fn all(
     plan: Record,
@@ -75,7 +64,7 @@ pub fn all(
 {
     drive(plan, width, data, scratch, twiddles);
     if plan.count == 1 {
-        copy(scratch, data);
+        paste(scratch, data, 0);
     }
     result_in(plan.count)
 }

@@ -1,6 +1,6 @@
--- `replay_stages::stages::agrees` is safe: all words have room. Assumes nothing.
-use Rattle.records.proofs.Prefixes.{part-long}
+-- `replay_stages::stages::agrees` meets its contract. Assumes nothing.
 use borrow.Author.Needs.{needs}
+use Rattle.records.proofs.Prefixes.{part-long}
 use Rattle.replay_stages.proofs.stages.agrees.Statement.{statement}
 use Rattle.replay_stages.proofs.stages.agrees.Tie as tie
 
@@ -28,29 +28,38 @@ cells-requires c κs = search needs
 cells-requires-2 : tie.Need-cells-requires-2
 cells-requires-2 c κs = search needs
 
+cells-requires-3 : tie.Need-cells-requires-3
+cells-requires-3 c κs = search needs
+
 array-borrow-prefix-own : tie.Need-array-borrow-prefix-own
 array-borrow-prefix-own c = search needs
 
 slice-aggregate-follow : tie.Need-slice-aggregate-follow
-slice-aggregate-follow c = part-long _ _ 7168 (c .before .before .before .before .twiddles .ensures) (c .before .before .before .before .before .if3 .left)
+slice-aggregate-follow c = part-long _ _ 7168 (c .before .before .before .before .before .twiddles .ensures) (c .before .before .before .before .before .before .if3 .left)
 
 array-borrow-prefix-other : tie.Need-array-borrow-prefix-other
 array-borrow-prefix-other c = search needs
 
 slice-aggregate-follow-2 : tie.Need-slice-aggregate-follow-2
-slice-aggregate-follow-2 c = part-long _ _ 7168 (c .before .before .before .before .twiddles2 .ensures) (c .before .before .before .before .before .before .if3 .left)
+slice-aggregate-follow-2 c = part-long _ _ 7168 (c .before .before .before .before .before .twiddles2 .ensures) (c .before .before .before .before .before .before .before .if3 .left)
 
 array-borrow-prefix-input : tie.Need-array-borrow-prefix-input
 array-borrow-prefix-input c = search needs
 
 slice-aggregate-follow-3 : tie.Need-slice-aggregate-follow-3
-slice-aggregate-follow-3 c = part-long _ _ 8192 (c .before .before .before .before .cells .ensures) (c .before .before .before .before .before .before .before .before .if2 .left)
+slice-aggregate-follow-3 c = part-long _ _ 8192 (c .before .before .before .before .before .cells .ensures) (c .before .before .before .before .before .before .before .before .before .if2 .left)
 
 array-borrow-prefix-output : tie.Need-array-borrow-prefix-output
 array-borrow-prefix-output c = search needs
 
 slice-aggregate-follow-4 : tie.Need-slice-aggregate-follow-4
-slice-aggregate-follow-4 c = part-long _ _ 8192 (c .before .before .before .before .cells2 .ensures) (c .before .before .before .before .before .before .before .before .before .if2 .left)
+slice-aggregate-follow-4 c = part-long _ _ 8192 (c .before .before .before .before .before .cells2 .ensures) (c .before .before .before .before .before .before .before .before .before .before .if2 .left)
+
+array-borrow-prefix-expected : tie.Need-array-borrow-prefix-expected
+array-borrow-prefix-expected c = search needs
+
+slice-aggregate-follow-5 : tie.Need-slice-aggregate-follow-5
+slice-aggregate-follow-5 c = part-long _ _ 8192 (c .before .before .before .before .before .cells3 .ensures) (c .before .before .before .before .before .before .before .before .before .before .before .if2 .left)
 
 follow-requires : tie.Need-follow-requires
 follow-requires c κs = search needs
@@ -70,6 +79,7 @@ agrees-spec =
     twiddles-requires-2
     cells-requires
     cells-requires-2
+    cells-requires-3
     array-borrow-prefix-own
     slice-aggregate-follow
     array-borrow-prefix-other
@@ -78,5 +88,7 @@ agrees-spec =
     slice-aggregate-follow-3
     array-borrow-prefix-output
     slice-aggregate-follow-4
+    array-borrow-prefix-expected
+    slice-aggregate-follow-5
     follow-requires
     returns-4)

@@ -1,8 +1,7 @@
 -- `ends::inner::words::conjugate` meets its contract. Assumes nothing.
-use mathlib.Core.Path.{_≡_, refl, ap, _∙_}
+use mathlib.Core.Path.{_≡_, ap, _∙_}
 use Prim.Native.Nat.{_-_, _≤_}
 use native.Mathlib.Omega.{arith}
-use lib.ListN.{length}
 use borrow.Author.Needs.{needs}
 use Rattle.floats.specs.Complexes.{conjugate}
 use Rattle.ends.proofs.Cells.{Mapped, mapped-none, mapped-next, conjugated-all}

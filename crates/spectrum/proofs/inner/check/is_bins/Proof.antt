@@ -2,7 +2,6 @@
 use mathlib.Core.Path.{sym}
 use Prim.Native.Nat.{_+_, _-_, _*_, _/_}
 use native.Mathlib.Omega.{arith}
-use borrow.Author.Needs.{needs}
 use borrow.Author.Tests.{ne-eqb}
 use Rattle.spectrum.proofs.Verdicts.{same-eqb}
 use Rattle.spectrum.proofs.inner.check.is_bins.Statement.{statement}

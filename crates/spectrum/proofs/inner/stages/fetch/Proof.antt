@@ -7,9 +7,10 @@ use borrow.Author.Needs.{needs}
 use lib.ListN.{length, drop}
 use Rattle.plan.specs.declared.Buffer.{Buffer}
 use Rattle.schedule.specs.Buffers.{heldIn}
-use Rattle.ends.specs.Ends.{pasted}
+use Rattle.floats.specs.Words.{pasted}
+use Rattle.floats.proofs.Words.{front-pasted}
 use Rattle.spectrum.specs.Transforms.{dataOf, padOf}
-use Rattle.spectrum.proofs.Scratch.{front-pasted, data-length, pad-length, pad-part}
+use Rattle.spectrum.proofs.Scratch.{data-length, pad-length, pad-part}
 use Rattle.spectrum.proofs.inner.stages.fetch.Statement.{statement}
 use Rattle.spectrum.proofs.inner.stages.fetch.Tie as tie
 

@@ -3,7 +3,6 @@ use mathlib.Core.Path.{sym, _∙_}
 use mathlib.Core.List.{_++_}
 use Prim.Native.Nat.{_+_, _*_}
 use native.Mathlib.Omega.{arith}
-use borrow.Author.Needs.{needs}
 use lib.ListN.{drop}
 use lib.Seq.{length-take-le, length-front}
 use Rattle.spectrum.proofs.Transforms.{prepare-made}

@@ -1,5 +1,4 @@
 -- `spectrum::inner::transform::invert` meets its contract. Assumes nothing.
-use mathlib.Core.Path.{_∙_}
 use native.Mathlib.Omega.{arith}
 use borrow.Author.Needs.{needs}
 use Rattle.spectrum.proofs.Transforms.{plan-some, plan-few, plan-twice, plan-endable, invert-made}

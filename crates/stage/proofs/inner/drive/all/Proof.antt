@@ -1,9 +1,10 @@
 -- `stage::inner::drive::all` meets its contract. Assumes nothing.
 use mathlib.Core.Logic.{⊎-elim}
-use mathlib.Core.Path.{ap, _∙_}
+use mathlib.Core.Path.{sym, ap, _∙_}
 use lib.ListN.{length}
 use borrow.Author.Needs.{needs}
 use Rattle.schedule.proofs.Buffers.{driven-copied, driven-kept}
+use Rattle.floats.proofs.Words.{whole-pasted}
 use Rattle.stage.specs.Runs.{stageIn}
 use Rattle.stage.proofs.inner.drive.all.Statement.{statement}
 use Rattle.stage.proofs.inner.drive.all.Tie as tie
@@ -11,8 +12,8 @@ use Rattle.stage.proofs.inner.drive.all.Tie as tie
 drive-requires : tie.Need-drive-requires
 drive-requires c κs = search needs
 
-copy-requires : tie.Need-copy-requires
-copy-requires c κs = search needs
+paste-requires : tie.Need-paste-requires
+paste-requires c κs = search needs
 
 result-in-requires : tie.Need-result-in-requires
 result-in-requires c κs = search needs
@@ -28,11 +29,12 @@ same-length-2 c = search needs
 returns : tie.Need-returns
 returns c =
     let drive = c .before .before .before .before .before .before .before .drive in
-    let a = c .before .before .before .before .before .before .before .before .before .before .before .before .before .args in
+    let s = c .before .before .before .before .before .before .before .before .before .before .before .before .before in
+    let a = s .args in
     let f = stageIn (a .plan) (a .width) (a .twiddles .now) in
     let left =
     ⊎-elim
-    (λ e. driven-copied f (a .«data» .now, a .scratch .now) (a .plan .count) (e .0 .taken) _ _ (e .6 ∙ e .3 .ensures) (drive .ensures .1))
+    (λ e. driven-copied f (a .«data» .now, a .scratch .now) (a .plan .count) (e .0 .taken) _ _ (e .6 ∙ e .3 .ensures ∙ whole-pasted _ _ (drive .kept .1 .1 .0 ∙ s .pre .long ∙ sym (drive .kept .1 .1 .1 .0 ∙ s .pre .wide))) (drive .ensures .1))
     (λ e. driven-kept f (a .«data» .now, a .scratch .now) (a .plan .count) (e .0 .left) _ _ (e .1 ∙ drive .ensures .0) (drive .ensures .1))
     (c .before .if1 .came) in
     (left .0, (left .1, c .result-in .ensures))
@@ -42,7 +44,7 @@ all-spec =
     tie.close
     (tie.spec
     drive-requires
-    copy-requires
+    paste-requires
     result-in-requires
     same-length
     same-length-2

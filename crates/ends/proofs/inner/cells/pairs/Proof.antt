@@ -1,23 +1,23 @@
--- `ends::inner::cells::ifft_pairs` meets its contract. Assumes nothing.
-use mathlib.Core.Path.{_≡_, refl, ap, _∙_}
+-- `ends::inner::cells::pairs` meets its contract. Assumes nothing.
+use mathlib.Core.Path.{_≡_, refl, _∙_}
 use mathlib.Core.List.{List}
-use Prim.Native.Nat.{_+_, _-_, _*_, _≤_, _<_}
+use Prim.Native.Nat.{_-_, _≤_, _<_}
 use native.Mathlib.Omega.{arith}
 use lib.Ieee.{Float}
 use lib.ListN.{length}
 use borrow.Author.Needs.{needs}
-use Rattle.ends.specs.Ends.{ifftNear, ifftFar, ifftSteps}
+use Rattle.ends.specs.Ends.{stepsOf}
 use Rattle.ends.specs.Parts.{Stepped}
 use Rattle.ends.proofs.Cells.{stepped-pair}
-use Rattle.ends.proofs.inner.cells.ifft_pairs.Statement.{statement}
-use Rattle.ends.proofs.inner.cells.ifft_pairs.Tie as tie
+use Rattle.ends.proofs.inner.cells.pairs.Statement.{statement}
+use Rattle.ends.proofs.inner.cells.pairs.Tie as tie
 
 abbrev Inv-loop : tie.InvT-loop
-Inv-loop cells₀ twiddles h k₀ cells k =
-    (0 < k) × (k ≤ 4096) × (length cells ≡ length cells₀) × ((xs : List Float) → Stepped ifftSteps h twiddles xs cells₀ 1 → Stepped ifftSteps h twiddles xs cells k)
+Inv-loop cells₀ twiddles h forward k₀ cells k =
+    (0 < k) × (k ≤ 4096) × (length cells ≡ length cells₀) × ((xs : List Float) → Stepped (stepsOf forward) h twiddles xs cells₀ 1 → Stepped (stepsOf forward) h twiddles xs cells k)
 
 abbrev μ-loop : tie.MeasureT-loop
-μ-loop cells₀ twiddles h k₀ cells k = h - k
+μ-loop cells₀ twiddles h forward k₀ cells k = h - k
 
 loop-holds : tie.Need-loop-holds Inv-loop μ-loop
 loop-holds c = (omega arith, omega arith, refl, λ xs s. s)
@@ -43,11 +43,11 @@ get-requires-3 c κs = omega (arith, c .before .before .before .before .before .
 sub-put-both : tie.Need-sub-put-both Inv-loop μ-loop
 sub-put-both c = search needs
 
-ifft-near-requires : tie.Need-ifft-near-requires Inv-loop μ-loop
-ifft-near-requires c κs = search needs
+near-requires : tie.Need-near-requires Inv-loop μ-loop
+near-requires c κs = search needs
 
-ifft-far-requires : tie.Need-ifft-far-requires Inv-loop μ-loop
-ifft-far-requires c κs = search needs
+far-requires : tie.Need-far-requires Inv-loop μ-loop
+far-requires c κs = search needs
 
 put-both-requires : tie.Need-put-both-requires Inv-loop μ-loop
 put-both-requires c κs =
@@ -73,7 +73,7 @@ loop-again c =
       omega (arith, lt, s .pre .few),
       c .before .before .put-both .kept .0 ∙ l .inv .2,
       λ xs p.
-          stepped-pair ifftSteps (s .args .h) (s .args .twiddles .now) xs (l .cells) (l .k) (l .inv .3 xs p) lt _ _ _ (c .before .before .before .before .ifft-near .ensures ∙ rw (a, b, t)) (c .before .before .before .ifft-far .ensures ∙ rw (a, b, t)) (c .before .before .put-both .ensures),
+          stepped-pair (stepsOf (s .args .forward)) (s .args .h) (s .args .twiddles .now) xs (l .cells) (l .k) (l .inv .3 xs p) lt _ _ _ (c .before .before .before .before .near .ensures ∙ rw (a, b, t)) (c .before .before .before .far .ensures ∙ rw (a, b, t)) (c .before .before .put-both .ensures),
     )
 
 same-length : tie.Need-same-length Inv-loop μ-loop
@@ -82,8 +82,8 @@ same-length c = c .before .loop .inv .2
 returns : tie.Need-returns Inv-loop μ-loop
 returns c = (c .loop-test .left, c .before .loop .inv .1, c .before .loop .inv .3)
 
-pub ifft-pairs-spec : {M : Type 1} → statement M
-ifft-pairs-spec =
+pub pairs-spec : {M : Type 1} → statement M
+pairs-spec =
     tie.close
     (tie.spec
     Inv-loop
@@ -96,8 +96,8 @@ ifft-pairs-spec =
     sub-get-2
     get-requires-3
     sub-put-both
-    ifft-near-requires
-    ifft-far-requires
+    near-requires
+    far-requires
     put-both-requires
     add-k
     loop-less

@@ -1,9 +1,9 @@
--- `replay_twiddles::words::follow_stage` is safe and ends: the measure is how many twiddles are left. Assumes nothing.
+-- `replay_twiddles::words::follow_words` is safe and ends: the measure is how many twiddles are left. Assumes nothing.
 use Prim.Native.Nat.{_-_, _/_, _≤_}
 use borrow.Author.Needs.{needs}
 use lib.ListN.{length}
-use Rattle.replay_twiddles.proofs.words.follow_stage.Statement.{statement}
-use Rattle.replay_twiddles.proofs.words.follow_stage.Tie as tie
+use Rattle.replay_twiddles.proofs.words.follow_words.Statement.{statement}
+use Rattle.replay_twiddles.proofs.words.follow_words.Tie as tie
 
 abbrev Inv-loop : tie.InvT-loop
 Inv-loop words fd is-same₀ i₀ is-same i = i ≤ length words / 2
@@ -65,8 +65,8 @@ loop-again c = search needs
 returns : tie.Need-returns Inv-loop μ-loop
 returns c = search needs
 
-pub follow-stage-spec : {M : Type 1} → statement M
-follow-stage-spec =
+pub follow-words-spec : {M : Type 1} → statement M
+follow-words-spec =
     tie.close
     (tie.spec
     Inv-loop

@@ -1,11 +1,23 @@
--- `replay_spectra::transforms::differing` is safe: all words have room. Assumes nothing.
+-- `replay_spectra::cases::differing` is safe: all words have room. Assumes nothing.
 use Rattle.records.proofs.Prefixes.{part-long}
 use borrow.Author.Needs.{needs}
-use Rattle.replay_spectra.proofs.transforms.differing.Statement.{statement}
-use Rattle.replay_spectra.proofs.transforms.differing.Tie as tie
+use Rattle.replay_spectra.proofs.cases.differing.Statement.{statement}
+use Rattle.replay_spectra.proofs.cases.differing.Tie as tie
+
+read-words-requires : tie.Need-read-words-requires
+read-words-requires c κs = search needs
+
+lent-words-requires : tie.Need-lent-words-requires
+lent-words-requires c κs = search needs
+
+count-requires : tie.Need-count-requires
+count-requires c κs = search needs
 
 returns : tie.Need-returns
 returns c = search needs
+
+count-requires-2 : tie.Need-count-requires-2
+count-requires-2 c κs = search needs
 
 returns-2 : tie.Need-returns-2
 returns-2 c = search needs
@@ -68,7 +80,11 @@ pub differing-spec : {M : Type 1} → statement M
 differing-spec =
     tie.close
     (tie.spec
+    read-words-requires
+    lent-words-requires
+    count-requires
     returns
+    count-requires-2
     returns-2
     twiddles-requires
     twiddles-requires-2

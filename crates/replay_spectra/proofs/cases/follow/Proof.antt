@@ -1,16 +1,16 @@
--- `replay_spectra::transforms::follow` is safe and ends: the measure is how many cases are left. Assumes nothing.
+-- `replay_spectra::cases::follow` is safe and ends: the measure is how many cases are left. Assumes nothing.
 use Prim.Native.Nat.{_≤_, _-_, _*_}
 use mathlib.Core.Path.{_≡_}
 use lib.ListN.{length}
 use borrow.Author.Needs.{needs}
-use Rattle.replay_spectra.proofs.transforms.follow.Statement.{statement}
-use Rattle.replay_spectra.proofs.transforms.follow.Tie as tie
+use Rattle.replay_spectra.proofs.cases.follow.Statement.{statement}
+use Rattle.replay_spectra.proofs.cases.follow.Tie as tie
 
 abbrev Inv-loop : tie.InvT-loop
-Inv-loop question own other₀ packed₀ input₀ output₀ scratch₀ fd is-read differ₀ k₀ other packed input output scratch differ k = (k ≤ 42) × ((differ ≤ 3 * k) × ((length other ≡ length other₀) × ((length packed ≡ length packed₀) × ((length input ≡ length input₀) × ((length output ≡ length output₀) × (length scratch ≡ length scratch₀))))))
+Inv-loop question is-whole own other₀ packed₀ input₀ output₀ scratch₀ fd is-read differ₀ k₀ other packed input output scratch differ k = (k ≤ 42) × ((differ ≤ 3 * k) × ((length other ≡ length other₀) × ((length packed ≡ length packed₀) × ((length input ≡ length input₀) × ((length output ≡ length output₀) × (length scratch ≡ length scratch₀))))))
 
 abbrev μ-loop : tie.MeasureT-loop
-μ-loop question own other₀ packed₀ input₀ output₀ scratch₀ fd is-read differ₀ k₀ other packed input output scratch differ k = 42 - k
+μ-loop question is-whole own other₀ packed₀ input₀ output₀ scratch₀ fd is-read differ₀ k₀ other packed input output scratch differ k = 42 - k
 
 read-requires : tie.Need-read-requires Inv-loop μ-loop
 read-requires c κs = search needs
@@ -32,6 +32,9 @@ loop-less c = search needs
 
 loop-again : tie.Need-loop-again Inv-loop μ-loop
 loop-again c = search needs
+
+count-requires : tie.Need-count-requires Inv-loop μ-loop
+count-requires c κs = search needs
 
 same-length : tie.Need-same-length Inv-loop μ-loop
 same-length c = search needs
@@ -88,6 +91,7 @@ follow-spec =
     add-k
     loop-less
     loop-again
+    count-requires
     same-length
     same-length-2
     same-length-3

@@ -1,0 +1,19 @@
+-- `ends::inner::steps::far` meets its contract. Assumes nothing.
+use borrow.Author.Needs.{needs}
+use Rattle.ends.proofs.inner.steps.far.Statement.{statement}
+use Rattle.ends.proofs.inner.steps.far.Tie as tie
+
+fft-far-requires : tie.Need-fft-far-requires
+fft-far-requires c κs = search needs
+
+ifft-far-requires : tie.Need-ifft-far-requires
+ifft-far-requires c κs = search needs
+
+returns : tie.Need-returns
+returns c = rw (c .before .if1 .taken) (c .fft-far .ensures)
+
+returns-2 : tie.Need-returns-2
+returns-2 c = rw (c .before .if1 .left) (c .ifft-far .ensures)
+
+pub far-spec : {M : Type 1} → statement M
+far-spec = tie.close (tie.spec fft-far-requires ifft-far-requires returns returns-2)
