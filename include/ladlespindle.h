@@ -5,6 +5,7 @@
  *
  * Lengths are in elements. NULL with length 0 is an empty list. Lists that are only read may overlap each other; a
  * buffer that a call writes may overlap nothing else that is lent to it. What a refused call was lent is as it was.
+ * The floating-point settings must be those that a C program starts with: rounding to nearest, subnormals kept.
  *
  * To link (x86-64 Linux, any C library): `rt staticlib ladlespindle` proves the functions and writes
  * target/staticlib/libladlespindle.a, which wants nothing but memcpy and memset:
