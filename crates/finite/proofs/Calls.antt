@@ -2,38 +2,37 @@
 -- A stage adds five binary digits at most, the steps at the ends three; where a plan has no stage forward does not write the Scratchpad. Assumes nothing.
 use mathlib.Core.Path.{_≡_, refl, sym, ap, _∙_, subst}
 use mathlib.Core.Bool.{not, _||_}
-use mathlib.Core.List.{List, [], _∷_, _++_}
+use mathlib.Core.List.{List, _++_}
 use Prim.Native.Nat.{ℕ, zero, suc, _+_, _-_, _*_, _/_, _%_, _≤_, _<_}
 use native.Mathlib.Omega.{arith}
 use lib.Dec.{eqb, ltb, lit≤}
 use lib.Ieee.{Float, binary32, add}
 use lib.ListN.{length}
 use borrow.Author.Tests.{ltb-false}
-use Rattle.refusal.specs.Refusal.{Row, verdict}
-use Rattle.refusal.specs.declared.Refusal.the-variants.{Length, Number, Twiddle, Bins}
+use Rattle.refusal.specs.declared.Refusal.the-variants.{Length, Number, Bins}
 use Rattle.refusal.specs.declared.Verdict.{Verdict}
 use Rattle.refusal.specs.declared.Verdict.the-variants.{Accepted, Refused}
 use Rattle.refusal.proofs.Rows.{accepted-by, settled}
-use Rattle.plan.specs.Counts.{radix, twiddleCount}
+use Rattle.plan.specs.Counts.{radix}
 use Rattle.plan.specs.declared.Record.{Record}
-use Rattle.plan.proofs.Counts.{count-later}
 use Rattle.schedule.specs.Plans.{inUse}
 use Rattle.schedule.specs.Stage.{stage}
-use Rattle.schedule.proofs.Plans.{use-radix}
 use Rattle.twiddle.specs.Places.{place}
 use Rattle.floats.specs.Complexes.{cell, paired}
 use Rattle.floats.specs.Scan.{firstUnfit}
 use Rattle.floats.specs.declared.complex.Complex.{Complex}
 use Rattle.kernel.specs.Floats.{floats, lentAt, stageOf}
 use Rattle.kernel.proofs.Widths.{place-lt}
-use Rattle.stage.specs.Calls.{Stages, stageVerdict, sizeRows, numberRows}
+use Rattle.stage.specs.Calls.{Stages}
+use Rattle.stage.proofs.Same.{own-count}
 use Rattle.stage.proofs.Theorems.{stage-told, stage-left}
-use Rattle.spectrum.specs.Calls as Spectra
+use Rattle.stage.proofs.Verdicts.{stage-taken}
+use Rattle.spectrum.specs.Calls.{Forwards, Inverts}
 use Rattle.spectrum.specs.Power.{powerOf, powerFrom, powerVerdict, Powers, summed}
 use Rattle.spectrum.specs.Transforms.{Slices, dataOf, padOf}
 use Rattle.spectrum.specs.declared.Summed.{Summed}
 use Rattle.spectrum.proofs.Sums.{bins-told}
-use Rattle.spectrum.proofs.Verdicts.{forwardable, invertible}
+use Rattle.spectrum.proofs.Verdicts.{lent-taken, forwardable, invertible}
 use Rattle.finite.specs.Sizes.{AtMost}
 use Rattle.finite.proofs.Ends.{zero-most}
 use Rattle.finite.proofs.Sizes.{add-most, mul-most, most-wider}
@@ -41,27 +40,13 @@ use Rattle.finite.proofs.Stages.{OnesIn, stage-all}
 use Rattle.finite.proofs.Words.{Words, scan-words, cell-both, words-cells, cells-words, stage-cells}
 use Rattle.finite.proofs.Transforms.{front-words, back-words, forward-words, forward-scratch, inverse-words, inverse-scratch}
 
--- ---- what an accepted call tells of its numbers
-
--- rows that are accepted behind others
-behind : (rows more : List Row) → verdict (rows ++ more) ≡ Accepted → verdict more ≡ Accepted
-behind [] more e = e
-behind (row ∷ rows) more e = behind rows more (accepted-by (row .given) (row .why) (verdict (rows ++ more)) e .1)
-
-module _ (k : ℕ) (xs tw : List Float) (n t : ℕ) where
-  -- two rows for numbers, accepted
-  scanned : verdict (record { given = ltb (firstUnfit k xs) (length xs); why = Number n } ∷ record { given = ltb (firstUnfit 0 tw) (length tw); why = Twiddle t } ∷ []) ≡ Accepted → Words k xs × Words 0 tw
-  scanned e =
-      let a = accepted-by (ltb (firstUnfit k xs) (length xs)) (Number n) _ e in
-      let b = accepted-by (ltb (firstUnfit 0 tw) (length tw)) (Twiddle t) _ (a .1) in
-      (scan-words k xs (ltb-false (firstUnfit k xs) (length xs) (a .0)), scan-words 0 tw (ltb-false (firstUnfit 0 tw) (length tw) (b .0)))
-
 -- ---- a stage
 
 module _ (p : Record) (j W : ℕ) (xs out tw : List Float) (r : Verdict) (ys : List Float) (s : Stages p j W xs out tw r ys) (e : r ≡ Accepted) where
   stage-scanned : Words 48 xs × Words 0 tw
-  unfolding stageVerdict
-  stage-scanned = scanned 48 xs tw _ _ (behind (sizeRows p j W (length xs) (length out) (length tw)) (numberRows xs tw) (sym (s .answer) ∙ e))
+  stage-scanned =
+      let t = stage-taken p j W xs (length out) tw (sym (s .answer) ∙ e) in
+      (scan-words 48 xs (t .numbers), scan-words 0 tw (t .twiddles))
 
   -- its input has at most 2 ^ 48
   pub stage-lent-within : Words 48 xs
@@ -75,8 +60,7 @@ module _ (p : Record) (j W : ℕ) (xs out tw : List Float) (r : Verdict) (ys : L
       let lent : ℕ → ℕ → ℕ → Complex = λ n. lentAt M (radix (inUse p) j) W tw in
       let ones : 0 < j → OnesIn p j (lent j) = λ later i q li first last.
       let below = place-lt M (radix (inUse p) j) W i q (t .width) li first last in
-      let count : M * (radix (inUse p) j - 1) ≡ twiddleCount (p .half) (p .radices) j = rw (use-radix p (t .planned) j (t .known)) (count-later p (t .planned) j (λ z. omega arith) (t .known)) in
-      cell-both 0 tw (stage-scanned .1) (place M (radix (inUse p) j) W i q) (omega (arith, below, count, t .lent)) in
+      cell-both 0 tw (stage-scanned .1) (place M (radix (inUse p) j) W i q) (omega (arith, below, own-count p (t .planned) j later (t .known), t .lent)) in
       let made = stage (floats lent) (p .half) (inUse p) j (paired xs) in
       let sized = stage-all p (t .planned) lent j k (t .known) few ones (paired xs) (words-cells k (p .half) xs (t .source) w) in
       subst (Words (k + 5)) (sym (stage-left p j W xs out tw r ys s e)) (cells-words (k + 5) made (λ i li. sized i (rw (stage-cells p lent j (paired xs)) at li)))
@@ -136,11 +120,11 @@ abbrev pub Within : (stages : ℕ) → Record → (out scratch : ℕ) → Slices
 Within stages p out scratch s = Words out (s .0) × Words scratch (dataOf (p .half) (s .1)) × (stages ≤ p .count → Words scratch (padOf (p .half) (s .1)))
 
 module _ (p : Record) (W : ℕ) (stage end xs : List Float) (before : Slices) (r : Verdict) (after : Slices) where
-  module _ (f : Spectra.Forwards p W stage end xs before r after) (e : r ≡ Accepted) where
+  module _ (f : Forwards p W stage end xs before r after) (e : r ≡ Accepted) where
     forward-scanned : Words 32 xs × Words 0 (stage ++ end)
-    unfolding Spectra.lentVerdict
-    forward-scanned = scanned 32 xs (stage ++ end) _ _
-        (behind (Spectra.sizeRows p W (eqb (length xs) (p .n)) (eqb (length (before .0)) (Spectra.binWords p)) (length (before .1)) (length stage) (length end)) (Spectra.numberRows 32 xs stage end) (sym (f .answer) ∙ e))
+    forward-scanned =
+        let t = lent-taken p W _ _ _ 32 xs stage end (sym (f .answer) ∙ e) in
+        (scan-words 32 xs (t .numbers), scan-words 0 (stage ++ end) (t .twiddles))
 
     -- its samples have at most 2 ^ 32
     pub samples-within : Words 32 xs
@@ -155,11 +139,11 @@ module _ (p : Record) (W : ℕ) (stage end xs : List Float) (before : Slices) (r
         subst (Within 1 p (k + 5 * p .count + 3) (k + 5 * p .count)) (sym (settled _ _ _ _ _ f (sym (f .answer) ∙ e)))
         (forward-words p W k stage end xs (before .1) (length (before .0)) t few w ws we, scratch .0, scratch .1)
 
-  module _ (f : Spectra.Inverts p W stage end xs before r after) (e : r ≡ Accepted) where
+  module _ (f : Inverts p W stage end xs before r after) (e : r ≡ Accepted) where
     inverse-scanned : Words 48 xs × Words 0 (stage ++ end)
-    unfolding Spectra.lentVerdict
-    inverse-scanned = scanned 48 xs (stage ++ end) _ _
-        (behind (Spectra.sizeRows p W (eqb (length xs) (Spectra.binWords p)) (not (ltb (length (before .0)) (p .n))) (length (before .1)) (length stage) (length end)) (Spectra.numberRows 48 xs stage end) (sym (f .answer) ∙ e))
+    inverse-scanned =
+        let t = lent-taken p W _ _ _ 48 xs stage end (sym (f .answer) ∙ e) in
+        (scan-words 48 xs (t .numbers), scan-words 0 (stage ++ end) (t .twiddles))
 
     -- its bins have numbers of at most 2 ^ 48
     pub bins-within : Words 48 xs

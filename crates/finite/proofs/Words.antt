@@ -1,9 +1,9 @@
 -- Laws of sizes of words: what a scan tells of a row, its cells, and what a run of stages leaves in both buffers. Assumes nothing.
 use mathlib.Core.Path.{_≡_, refl, sym, subst}
-use mathlib.Core.Bool.{Bool, true, false, cond}
+use mathlib.Core.Bool.{Bool, true, false}
 use mathlib.Core.List.{List, [], _∷_}
 use Prim.Native.Nat.{ℕ, zero, suc, _+_, _*_, _%_, _≤_, _<_}
-use native.Mathlib.Nat.{le-of-lt, le-of-suc-le-suc}
+use native.Mathlib.Nat.{le-of-lt}
 use native.Mathlib.Omega.{arith}
 use lib.Dec.{eqb, lit≤}
 use lib.Ieee.{Float, nan}
@@ -18,9 +18,10 @@ use Rattle.schedule.specs.Stage.{plain, stage}
 use Rattle.schedule.proofs.Buffers.{both-long}
 use Rattle.schedule.proofs.Cells.{length-stage}
 use Rattle.floats.specs.Complexes.{cell, paired, flat}
-use Rattle.floats.specs.Scan.{fits, firstNot, firstUnfit}
+use Rattle.floats.specs.Scan.{fits, firstUnfit}
 use Rattle.floats.specs.declared.complex.Complex.{Complex}
 use Rattle.floats.proofs.Flat.{get-paired}
+use Rattle.floats.proofs.Scan.{all-pass}
 use Rattle.kernel.specs.Floats.{floats}
 use Rattle.stage.specs.Runs.{ownOf, stageIn, runOf, lentTo}
 use Rattle.stage.proofs.Runs.{length-made}
@@ -34,16 +35,6 @@ abbrev pub Words : (k : ℕ) → List Float → Type 0
 Words k xs = (i : ℕ) → i < length xs → AtMost 1 k (getD xs i nan)
 
 -- ---- what a scan tells
-
-all-pass : (f : Float → Bool) (xs : List Float) → length xs ≤ firstNot f xs → (i : ℕ) → i < length xs → f (getD xs i nan) ≡ true
-all-pass f [] l i li = absurd (omega arith)
-all-pass f (x ∷ xs) l i li = go (f x) refl l i li (λ m j lj. all-pass f xs m j lj)
-  where
-    go : (b : Bool) → f x ≡ b → suc (length xs) ≤ cond b (suc (firstNot f xs)) 0 → (i : ℕ) → i < suc (length xs)
-        → (length xs ≤ firstNot f xs → (j : ℕ) → j < length xs → f (getD xs j nan) ≡ true) → f (getD (x ∷ xs) i nan) ≡ true
-    go true e l zero li rest = e
-    go true e l (suc i) li rest = rest (le-of-suc-le-suc l) i (le-of-suc-le-suc li)
-    go false e l i li rest = absurd (omega arith)
 
 pub scan-words : (k : ℕ) (xs : List Float) → length xs ≤ firstUnfit k xs → Words k xs
 unfolding firstUnfit

@@ -1,20 +1,22 @@
--- The first number at which a test fails, step by step; and that the test at a bound 2 ^ k is the definition's. Assumes nothing.
-use Prim.Native.Nat.{ℕ, suc, _+_, _*_, _^_, _<_, _≤_}
-use native.Mathlib.Nat.{mul-one, one-mul, mul-pos, eq-or-lt-of-le, lt-of-not-le, add-zero, zero-add, suc-add}
+-- The first number at which a test fails, step by step; where there is none; and that the test at a bound 2 ^ k is the definition's. Assumes nothing.
+use Prim.Native.Nat.{ℕ, zero, suc, _+_, _*_, _/_, _%_, _^_, _<_, _≤_}
+use native.Mathlib.Nat.{mul-one, one-mul, mul-pos, eq-or-lt-of-le, lt-of-not-le, le-of-suc-le-suc, add-zero, zero-add, suc-add}
 use native.Mathlib.Numerals.{add-one}
 use native.Mathlib.Omega.{arith}
 use mathlib.Core.Path.{_≡_, refl, sym, ap, subst, _∙_}
 use mathlib.Core.Logic.{inl, inr, dite}
-use native.Mathlib.Decide.{decLe}
+use native.Mathlib.Decide.{decLe, ℕ-discrete}
 use mathlib.Core.Bool.{Bool, true, false, cond, _&&_, _||_}
 use mathlib.Core.List.{List, [], _∷_, _++_}
 use lib.Dec.{ltb, leb, eqb}
-use lib.ListN.{length, getD, drop, drop-of-length-le}
+use lib.ListN.{length, getD, drop, drop-of-length-le, length-append}
 use lib.Seq.{drop-cons}
 use lib.Pow.{pow-pos}
 use lib.Ieee.{Float, nan, inf, fin, le, lt, eq, neg, up, down}
 use lib.Ieee.Fits.{down-pos}
 use borrow.Author.Tests.{lt-ltb, le-ltb, le-leb, lt-leb, eq-eqb, ne-eqb}
+use Rattle.floats.specs.declared.complex.Complex.{Complex}
+use Rattle.floats.specs.Complexes.{cell}
 use Rattle.floats.specs.Scan.{fits, firstNot, firstUnfit, bound, within, Passed}
 
 -- where the first i pass, the answer is i and the answer for the rest
@@ -58,6 +60,51 @@ joined-second f (x ∷ xs) ys l = go (f x) l (λ m. joined-second f xs ys m)
         → cond b (suc (firstNot f (xs ++ ys))) 0 ≡ suc (length xs) + firstNot f ys
     go true l e = ap suc (e (omega arith)) ∙ sym (suc-add (length xs) (firstNot f ys))
     go false l e = absurd (omega arith)
+
+-- ---- where there is none
+
+-- every number passes
+pub all-pass : (f : Float → Bool) (xs : List Float) → length xs ≤ firstNot f xs → (i : ℕ) → i < length xs → f (getD xs i nan) ≡ true
+all-pass f [] l i li = absurd (omega arith)
+all-pass f (x ∷ xs) l i li = go (f x) refl l i li (λ m j lj. all-pass f xs m j lj)
+  where
+    go : (b : Bool) → f x ≡ b → suc (length xs) ≤ cond b (suc (firstNot f xs)) 0 → (i : ℕ) → i < suc (length xs)
+        → (length xs ≤ firstNot f xs → (j : ℕ) → j < length xs → f (getD xs j nan) ≡ true) → f (getD (x ∷ xs) i nan) ≡ true
+    go true e l zero li rest = e
+    go true e l (suc i) li rest = rest (le-of-suc-le-suc l) i (le-of-suc-le-suc li)
+    go false e l i li rest = absurd (omega arith)
+
+-- and where every number passes there is none
+pub none-fails : (f : Float → Bool) (xs : List Float) → ((i : ℕ) → i < length xs → f (getD xs i nan) ≡ true) → length xs ≤ firstNot f xs
+none-fails f [] each = omega arith
+none-fails f (x ∷ xs) each =
+    let rest : length xs ≤ firstNot f xs = none-fails f xs (λ i li. each (suc i) (omega arith)) in
+    let here : f x ≡ true = each 0 (omega arith) in
+    rw here (omega arith)
+
+-- in two rows joined there is none in either
+pub joined-none : (f : Float → Bool) (xs ys : List Float) → length (xs ++ ys) ≤ firstNot f (xs ++ ys) → (length xs ≤ firstNot f xs) × (length ys ≤ firstNot f ys)
+joined-none f xs ys l = pick (decLe (length xs) (firstNot f xs))
+  where
+    pick : Dec (length xs ≤ firstNot f xs) → (length xs ≤ firstNot f xs) × (length ys ≤ firstNot f ys)
+    pick (yes m) = (m, omega (arith, length-append xs ys, joined-second f xs ys m))
+    pick (no m) = absurd (omega (arith, length-append xs ys, joined-first f xs ys (lt-of-not-le m)))
+
+-- both words of a cell pass
+abbrev pub BothPass : (Float → Bool) → Complex → Type 0
+BothPass f z = (f (z .re) ≡ true) × (f (z .im) ≡ true)
+
+-- those of each cell do
+pub cell-passes : (f : Float → Bool) (xs : List Float) → length xs ≤ firstNot f xs → (n : ℕ) → 2 * n + 1 < length xs → BothPass f (cell xs n)
+cell-passes f xs l n ln = (all-pass f xs l (2 * n) (omega arith), all-pass f xs l (2 * n + 1) ln)
+
+-- and where those of each cell do there is none
+pub no-cell-fails : (f : Float → Bool) (xs : List Float) (m : ℕ) → length xs ≡ 2 * m → ((n : ℕ) → n < m → BothPass f (cell xs n)) → length xs ≤ firstNot f xs
+no-cell-fails f xs m e each = none-fails f xs (λ i li. pick i li (ℕ-discrete (i % 2) 0))
+  where
+    pick : (i : ℕ) → i < length xs → Dec (i % 2 ≡ 0) → f (getD xs i nan) ≡ true
+    pick i li (yes z) = subst (λ (k : ℕ). f (getD xs k nan) ≡ true) {x = 2 * (i / 2)} {y = i} (omega arith) (each (i / 2) (omega arith) .0)
+    pick i li (no z) = subst (λ (k : ℕ). f (getD xs k nan) ≡ true) {x = 2 * (i / 2) + 1} {y = i} (omega arith) (each (i / 2) (omega arith) .1)
 
 -- ---- the code's test
 and-true : (b : Bool) → (b && true) ≡ b

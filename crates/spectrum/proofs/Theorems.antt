@@ -1,8 +1,9 @@
--- What a reader opens first: lent the same words for each stage, iteration and number, at any two widths, both directions leave the same output
--- and the same scratch; and a refused call writes nothing. That two outcomes of a call are equal is in proofs/Unique.antt. Assumes nothing.
+-- What a reader opens first: lent the same words for each stage, iteration and number, a call of either direction that is accepted at one width is
+-- accepted at any other, and leaves the same output and the same scratch; and a refused call writes nothing. That two outcomes of a call are
+-- equal is in proofs/Unique.antt. Assumes nothing.
 use Prim.Native.Nat.{ℕ, _-_, _*_, _<_}
 use mathlib.Core.Path.{_≡_, refl, sym, ap, _∙_}
-use mathlib.Core.Bool.{true}
+use mathlib.Core.Bool.{Bool, true}
 use mathlib.Core.List.{List, _++_}
 use lib.Ieee.{Float}
 use lib.ListN.{length}
@@ -16,13 +17,18 @@ use Rattle.plan.specs.Record.{isPlanned}
 use Rattle.plan.specs.declared.Record.{Record}
 use Rattle.schedule.specs.Buffers.{Two, heldIn}
 use Rattle.schedule.proofs.Buffers.{driven-same}
+use Rattle.twiddle.specs.Calls.{isWidth}
+use Rattle.twiddle.proofs.Verdicts.{width-bounds}
 use Rattle.floats.specs.Complexes.{paired, flat}
+use Rattle.floats.specs.Scan.{fits, firstUnfit}
+use Rattle.floats.proofs.Scan.{joined-none}
 use Rattle.stage.specs.Runs.{stageIn, runOf, lentTo}
+use Rattle.stage.proofs.Accepted.{all-fit-alike}
 use Rattle.stage.proofs.Same.{AgreeAll, plan-agree, stage-lent}
 use Rattle.ends.specs.Ends.{postprocess-fft, zeros}
-use Rattle.spectrum.specs.Calls.{Forwards, Inverts}
+use Rattle.spectrum.specs.Calls.{lentVerdict, Forwards, Inverts}
 use Rattle.spectrum.specs.Transforms.{Slices, withBoth, forwardRun, forwardOf, inverseRun, restored, inverseOf}
-use Rattle.spectrum.proofs.Verdicts.{forwardable, invertible}
+use Rattle.spectrum.proofs.Verdicts.{lent-taken, all-sized, all-fit, numbers-decide}
 
 -- ---- widths
 
@@ -49,20 +55,38 @@ module _ (p : Record) (planned : isPlanned p ≡ true) (W W′ : ℕ) (some : 0 
       made : Two Float → Slices
       made b = (b .0 ++ zeros (n - 2 * p .half), withBoth (p .half) b s)
 
+-- the verdict at W′ accepts where that at W does
+accepted-any-width : (p : Record) (W W′ : ℕ) (input output : Bool) (scratch k : ℕ) (xs stage stage′ end : List Float) → lentVerdict p W input output scratch k xs stage end ≡ Accepted
+    → isWidth W′ ≡ true → length stage′ ≡ length stage → Alike p W W′ stage stage′ → lentVerdict p W′ input output scratch k xs stage′ end ≡ Accepted
+unfolding firstUnfit
+accepted-any-width p W W′ input output scratch k xs stage stage′ end accepted wide same alike =
+    let t = lent-taken p W input output scratch k xs stage end accepted in
+    let lent = same ∙ t .stages in
+    let fit = joined-none (fits 0) stage end (t .twiddles) in
+    let fit′ = all-fit-alike p (t .planned) W W′ (width-bounds W (t .width) .0) (width-bounds W′ wide .0) stage stage′ (t .stages) lent alike (fit .0) in
+    let sized = all-sized p W′ input output scratch (length stage′) (length end) (t .planned) wide (t .long) (t .wide) (t .room) lent (t .ends) in
+    sym (all-fit k xs stage′ end _ refl (t .numbers) _ refl fit′ _ refl (fit .1) ∙ numbers-decide p W′ input output scratch k xs stage′ end Accepted sized refl)
+
 -- ---- calls
 
-module _ (p : Record) (W W′ : ℕ) (stage stage′ end xs : List Float) (before : Slices) (r r′ : Verdict) (after after′ : Slices) (e : r ≡ Accepted) (e′ : r′ ≡ Accepted) (alike : Alike p W W′ stage stage′) where
-  pub forward-any-width : Forwards p W stage end xs before r after → Forwards p W′ stage′ end xs before r′ after′ → after ≡ after′
+-- lent the same words, a call that is accepted at W is accepted at W′, and leaves the same
+module _ (p : Record) (W W′ : ℕ) (stage stage′ end xs : List Float) (before : Slices) (r r′ : Verdict) (after after′ : Slices) (e : r ≡ Accepted) (wide : isWidth W′ ≡ true)
+    (same : length stage′ ≡ length stage) (alike : Alike p W W′ stage stage′) where
+  pub forward-any-width : Forwards p W stage end xs before r after → Forwards p W′ stage′ end xs before r′ after′ → (r′ ≡ Accepted) × (after ≡ after′)
   forward-any-width f g =
-      let t = forwardable p W _ _ (length xs) (length (before .0)) (length (before .1)) 32 xs stage end r refl refl (f .answer) e in
-      let t′ = forwardable p W′ _ _ (length xs) (length (before .0)) (length (before .1)) 32 xs stage′ end r′ refl refl (g .answer) e′ in
-      settled _ _ _ _ _ f (sym (f .answer) ∙ e) ∙ forward-same p (t .planned) W W′ (t .width) (t′ .width) stage stage′ alike end xs (before .1) ∙ sym (settled _ _ _ _ _ g (sym (g .answer) ∙ e′))
+      let told = sym (f .answer) ∙ e in
+      let told′ = accepted-any-width p W W′ _ _ _ 32 xs stage stage′ end told wide same alike in
+      let t = lent-taken p W _ _ _ 32 xs stage end told in
+      let made = forward-same p (t .planned) W W′ (width-bounds W (t .width) .0) (width-bounds W′ wide .0) stage stage′ alike end xs (before .1) in
+      (g .answer ∙ told′, settled _ _ _ _ _ f told ∙ made ∙ sym (settled _ _ _ _ _ g told′))
 
-  pub inverse-any-width : Inverts p W stage end xs before r after → Inverts p W′ stage′ end xs before r′ after′ → after ≡ after′
+  pub inverse-any-width : Inverts p W stage end xs before r after → Inverts p W′ stage′ end xs before r′ after′ → (r′ ≡ Accepted) × (after ≡ after′)
   inverse-any-width f g =
-      let t = invertible p W _ _ (length xs) (length (before .0)) (length (before .1)) 48 xs stage end r refl refl (f .answer) e in
-      let t′ = invertible p W′ _ _ (length xs) (length (before .0)) (length (before .1)) 48 xs stage′ end r′ refl refl (g .answer) e′ in
-      settled _ _ _ _ _ f (sym (f .answer) ∙ e) ∙ inverse-same p (t .planned) W W′ (t .width) (t′ .width) stage stage′ alike end xs (before .1) (length (before .0)) ∙ sym (settled _ _ _ _ _ g (sym (g .answer) ∙ e′))
+      let told = sym (f .answer) ∙ e in
+      let told′ = accepted-any-width p W W′ _ _ _ 48 xs stage stage′ end told wide same alike in
+      let t = lent-taken p W _ _ _ 48 xs stage end told in
+      let made = inverse-same p (t .planned) W W′ (width-bounds W (t .width) .0) (width-bounds W′ wide .0) stage stage′ alike end xs (before .1) (length (before .0)) in
+      (g .answer ∙ told′, settled _ _ _ _ _ f told ∙ made ∙ sym (settled _ _ _ _ _ g told′))
 
 -- a refused call writes nothing
 module _ (p : Record) (W : ℕ) (stage end xs : List Float) (before : Slices) (r : Verdict) (after : Slices) (why : Refusal) (e : r ≡ Refused why) where

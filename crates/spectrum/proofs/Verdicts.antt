@@ -120,19 +120,22 @@ module _ (p : Record) (W : ℕ) (input output : Bool) (scratch k : ℕ) (xs stag
 
 -- ---- what an accepted call tells
 
-record Taken (p : Record) (W : ℕ) (input output : Bool) (scratch stage end : ℕ) : Type 0 where
-  planned : isPlanned p ≡ true
-  width : isWidth W ≡ true
-  long : input ≡ true
-  wide : output ≡ true
-  room : 6 * p .n ≤ scratch
-  stages : stage ≡ 2 * stageTwiddles p
-  ends : end ≡ 2 * endCount (p .n)
+-- that the slices have their lengths, and that the numbers in them fit
+pub record Taken (p : Record) (W : ℕ) (input output : Bool) (scratch k : ℕ) (xs stage end : List Float) : Type 0 where
+  pub planned : isPlanned p ≡ true
+  pub width : isWidth W ≡ true
+  pub long : input ≡ true
+  pub wide : output ≡ true
+  pub room : 6 * p .n ≤ scratch
+  pub stages : length stage ≡ 2 * stageTwiddles p
+  pub ends : length end ≡ 2 * endCount (p .n)
+  pub numbers : length xs ≤ firstUnfit k xs
+  pub twiddles : length (stage ++ end) ≤ firstUnfit 0 (stage ++ end)
 
-taken : (p : Record) (W : ℕ) (input output : Bool) (scratch k : ℕ) (xs stage end : List Float) → lentVerdict p W input output scratch k xs stage end ≡ Accepted
-    → Taken p W input output scratch (length stage) (length end)
+pub lent-taken : (p : Record) (W : ℕ) (input output : Bool) (scratch k : ℕ) (xs stage end : List Float) → lentVerdict p W input output scratch k xs stage end ≡ Accepted
+    → Taken p W input output scratch k xs stage end
 unfolding lentVerdict
-taken p W input output scratch k xs stage end t =
+lent-taken p W input output scratch k xs stage end t =
     let a = accepted-by (not (isPlanned p)) (NotPlanned 0) _ t in
     let b = accepted-by (not (isWidth W)) Width _ (a .1) in
     let d = accepted-by (not input) (Length 0) _ (b .1) in
@@ -140,6 +143,8 @@ taken p W input output scratch k xs stage end t =
     let f = accepted-by (ltb scratch (6 * p .n)) (Length 2) _ (e .1) in
     let g = accepted-by (not (eqb (length stage) (2 * stageTwiddles p))) (Length 3) _ (f .1) in
     let h = accepted-by (not (eqb (length end) (2 * endCount (p .n)))) (Length 4) _ (g .1) in
+    let i = accepted-by (ltb (firstUnfit k xs) (length xs)) (Number (firstUnfit k xs)) _ (h .1) in
+    let j = accepted-by (ltb (firstUnfit 0 (stage ++ end)) (length (stage ++ end))) (Twiddle (firstUnfit 0 (stage ++ end))) _ (i .1) in
     record {
       planned = not-false _ (a .0);
       width = not-false _ (b .0);
@@ -148,12 +153,14 @@ taken p W input output scratch k xs stage end t =
       room = ltb-false scratch (6 * p .n) (f .0);
       stages = eqb-true (length stage) _ (not-false _ (g .0));
       ends = eqb-true (length end) _ (not-false _ (h .0));
+      numbers = ltb-false (firstUnfit k xs) (length xs) (i .0);
+      twiddles = ltb-false (firstUnfit 0 (stage ++ end)) (length (stage ++ end)) (j .0);
     }
 
 pub forwardable : (p : Record) (W : ℕ) (input output : Bool) (ni nw scratch k : ℕ) (xs stage end : List Float) (v : Verdict) → input ≡ eqb ni (p .n) → output ≡ eqb nw (binWords p)
     → v ≡ lentVerdict p W input output scratch k xs stage end → v ≡ Accepted → Forwardable p W ni nw scratch (length stage) (length end)
 forwardable p W input output ni nw scratch k xs stage end v ei eo told e =
-    let t = taken p W input output scratch k xs stage end (sym told ∙ e) in
+    let t = lent-taken p W input output scratch k xs stage end (sym told ∙ e) in
     let w = width-bounds W (t .width) in
     record {
       planned = t .planned;
@@ -169,7 +176,7 @@ forwardable p W input output ni nw scratch k xs stage end v ei eo told e =
 pub invertible : (p : Record) (W : ℕ) (input output : Bool) (ni nw scratch k : ℕ) (xs stage end : List Float) (v : Verdict) → input ≡ eqb ni (binWords p) → output ≡ not (ltb nw (p .n))
     → v ≡ lentVerdict p W input output scratch k xs stage end → v ≡ Accepted → Invertible p W ni nw scratch (length stage) (length end)
 invertible p W input output ni nw scratch k xs stage end v ei eo told e =
-    let t = taken p W input output scratch k xs stage end (sym told ∙ e) in
+    let t = lent-taken p W input output scratch k xs stage end (sym told ∙ e) in
     let w = width-bounds W (t .width) in
     record {
       planned = t .planned;

@@ -2,5 +2,6 @@
 pub mod Verdicts
 pub mod Runs
 pub mod Same
+pub mod Accepted
 pub mod Theorems
 pub mod Unique

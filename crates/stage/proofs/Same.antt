@@ -78,6 +78,10 @@ module _ (p : Record) (e : isPlanned p ≡ true) where
 
   -- ---- the twiddles of one stage among those of all
 
+  -- a later stage has r - 1 for each iteration
+  pub own-count : (j : ℕ) → 1 ≤ j → j < p .count → M j * (radix (inUse p) j - 1) ≡ twiddleCount (p .half) (p .radices) j
+  own-count j later l = rw (use-radix p e j l) (count-later p e j (λ z. omega arith) l)
+
   module _ (W : ℕ) (width : 0 < W) (tw : List Float) where
     own-word : (j w : ℕ) → w < 2 * twiddleCount (p .half) (p .radices) j → getD (ownOf p tw j) w nan ≡ getD tw (2 * twiddleStart (p .half) (p .radices) j + w) nan
     own-word j w l = getD-take _ _ w nan l ∙ getD-drop (2 * twiddleStart (p .half) (p .radices) j) tw w nan
@@ -91,8 +95,7 @@ module _ (p : Record) (e : isPlanned p ≡ true) where
     pub own-lent : (j : ℕ) → 1 ≤ j → j < p .count → Agree (M j) (radix (inUse p) j) (lentAt (M j) (radix (inUse p) j) W (ownOf p tw j)) (lentTo p W tw j)
     own-lent j later l i q li first last =
         let r = radix (inUse p) j in
-        let count : M j * (r - 1) ≡ twiddleCount (p .half) (p .radices) j = rw (use-radix p e j l) (count-later p e j (λ z. omega arith) l) in
-        own-cell j (place (M j) r W i q) (rw (← count) (place-lt (M j) r W i q width li first last))
+        own-cell j (place (M j) r W i q) (rw (← own-count j later l) (place-lt (M j) r W i q width li first last))
 
     -- a stage of a run is the schedule's, with the lent twiddles
     pub stage-lent : (j : ℕ) → j < p .count → (xs : List Float) → stageIn p W tw j xs ≡ flat (stage (floats (lentTo p W tw)) (p .half) (inUse p) j (paired xs))

@@ -1,9 +1,10 @@
--- What a reader opens first: a stage's output does not depend on the width its twiddles are packed for; with filled twiddles a stage and a run
--- are the schedule whose twiddles are its own turns; and a refused stage writes nothing. That two outcomes of a call are equal is `Stages-one`
--- of proofs/Unique.antt. Assumes nothing.
+-- What a reader opens first: whether a stage is accepted, and what it then makes, does not depend on the width its twiddles are packed for; with
+-- filled twiddles a stage and a run are the schedule whose twiddles are its own turns; and a refused stage writes nothing. That two outcomes of
+-- a call are equal is `Stages-one` of proofs/Unique.antt. Assumes nothing.
 use Prim.Native.Nat.{ℕ, _*_, _/_, _<_}
 use native.Mathlib.Omega.{arith}
 use mathlib.Core.Path.{_≡_, sym, ap, ap₂, _∙_}
+use mathlib.Core.Bool.{true}
 use mathlib.Core.List.{List}
 use lib.Ieee.{Float, nan}
 use lib.ListN.{length}
@@ -17,15 +18,16 @@ use Rattle.plan.specs.declared.Record.{Record}
 use Rattle.schedule.specs.Buffers.{heldIn}
 use Rattle.schedule.specs.Plans.{inUse}
 use Rattle.schedule.specs.Stage.{stage, run}
-use Rattle.twiddle.specs.Calls.{Slices, Fills}
+use Rattle.twiddle.specs.Calls.{isWidth, Slices, Fills}
 use Rattle.twiddle.specs.declared.inner.ends.Direction.{Direction}
 use Rattle.twiddle.proofs.Theorems.{filled-twiddle}
 use Rattle.twiddle.proofs.Verdicts.{Taken, taken, width-bounds}
 use Rattle.floats.specs.Complexes.{cx, paired, flat}
 use Rattle.kernel.specs.Floats.{floats, lentAt, stageOf}
 use Rattle.kernel.specs.Parts.{Workable}
-use Rattle.stage.specs.Calls.{Stages}
+use Rattle.stage.specs.Calls.{stageVerdict, Stages}
 use Rattle.stage.specs.Runs.{ownOf, stageIn, runOf, lentTo, turning}
+use Rattle.stage.proofs.Accepted.{accepted-any-width}
 use Rattle.stage.proofs.Same.{Agree, AgreeAll, plan-agree, run-agree, stage-lent, run-lent}
 use Rattle.stage.proofs.Verdicts.{stage-workable}
 
@@ -43,15 +45,17 @@ module _ (p : Record) (j W : ℕ) (xs out tw : List Float) (r : Verdict) (ys : L
   pub stage-kept : (why : Refusal) → r ≡ Refused why → ys ≡ out
   stage-kept why e = s .cells ∙ ap (λ (v : Verdict). left v (stageOf p j W tw xs) out) (sym (s .answer) ∙ e)
 
--- lent the same words for each iteration and number, at any two widths, a stage makes the same
+-- lent the same words for each iteration and number, a call that is accepted at one width is accepted at any other, and makes the same
 pub any-width : (p : Record) (j W W′ : ℕ) (xs out out′ tw tw′ : List Float) (r r′ : Verdict) (ys ys′ : List Float) → Stages p j W xs out tw r ys → Stages p j W′ xs out′ tw′ r′ ys′
-    → r ≡ Accepted → r′ ≡ Accepted
+    → r ≡ Accepted → isWidth W′ ≡ true → length out′ ≡ length out → length tw′ ≡ length tw
     → Agree (p .half / radix (inUse p) j) (radix (inUse p) j) (lentAt (p .half / radix (inUse p) j) (radix (inUse p) j) W tw) (lentAt (p .half / radix (inUse p) j) (radix (inUse p) j) W′ tw′)
-    → ys ≡ ys′
+    → (r′ ≡ Accepted) × (ys ≡ ys′)
 unfolding stageOf
-any-width p j W W′ xs out out′ tw tw′ r r′ ys ys′ s s′ e e′ agree =
+any-width p j W W′ xs out out′ tw tw′ r r′ ys ys′ s s′ e wide room same agree =
     let t = stage-told p j W xs out tw r ys s e in
-    stage-left p j W xs out tw r ys s e ∙ ap flat (plan-agree p (t .planned) _ _ j (t .known) (λ later. agree) (paired xs)) ∙ sym (stage-left p j W′ xs out′ tw′ r′ ys′ s′ e′)
+    let e′ : r′ ≡ Accepted
+    = s′ .answer ∙ ap (λ (n : ℕ). stageVerdict p j W′ xs n tw′) room ∙ accepted-any-width p j W W′ xs (length out) tw tw′ (sym (s .answer) ∙ e) wide same agree in
+    (e′, stage-left p j W xs out tw r ys s e ∙ ap flat (plan-agree p (t .planned) _ _ j (t .known) (λ later. agree) (paired xs)) ∙ sym (stage-left p j W′ xs out′ tw′ r′ ys′ s′ e′))
 
 -- ---- with the words that an accepted filling leaves
 

@@ -6,7 +6,7 @@ use mathlib.Core.List.{List}
 use lib.Dec.{eqb, ltb}
 use lib.Ieee.{Float}
 use lib.ListN.{length}
-use borrow.Author.Tests.{lt-ltb, le-ltb, ltb-true, eqb-true, eq-eqb, ne-eqb, not-false}
+use borrow.Author.Tests.{lt-ltb, le-ltb, ltb-true, ltb-false, eqb-true, eq-eqb, ne-eqb, not-false}
 use Rattle.refusal.specs.declared.Refusal.{Refusal}
 use Rattle.refusal.specs.declared.Refusal.the-variants.{NotPlanned, Width, Length, Number, Twiddle, Stage}
 use Rattle.refusal.specs.declared.Verdict.{Verdict}
@@ -90,28 +90,39 @@ module _ (p : Record) (j W : ℕ) (xs : List Float) (output : ℕ) (tw : List Fl
 
 -- ---- what an accepted call tells
 
--- in an accepted verdict the first rows accept
-accepted-first : (p : Record) (j W : ℕ) (xs : List Float) (output : ℕ) (tw : List Float) → stageVerdict p j W xs output tw ≡ Accepted
-    → Workable p j W (length xs) (length tw) output
+-- that it is lent what its work asks for, and that its numbers fit
+pub record Taken (p : Record) (j W : ℕ) (xs : List Float) (output : ℕ) (tw : List Float) : Type 0 where
+  pub workable : Workable p j W (length xs) (length tw) output
+  pub numbers : length xs ≤ firstUnfit 48 xs
+  pub twiddles : length tw ≤ firstUnfit 0 tw
+
+pub stage-taken : (p : Record) (j W : ℕ) (xs : List Float) (output : ℕ) (tw : List Float) → stageVerdict p j W xs output tw ≡ Accepted → Taken p j W xs output tw
 unfolding stageVerdict
-accepted-first p j W xs output tw t =
+stage-taken p j W xs output tw t =
     let a = accepted-by (not (isPlanned p)) (NotPlanned 0) _ t in
     let b = accepted-by (not (ltb j (p .count))) Stage _ (a .1) in
     let d = accepted-by (not (isWidth W)) Width _ (b .1) in
     let e = accepted-by (not (eqb (length xs) (2 * p .half))) (Length 0) _ (d .1) in
     let f = accepted-by (not (eqb output (2 * p .half))) (Length 1) _ (e .1) in
     let g = accepted-by (not (eqb (length tw) (2 * twiddleCount (p .half) (p .radices) j))) (Length 3) _ (f .1) in
+    let h = accepted-by (ltb (firstUnfit 48 xs) (length xs)) (Number (firstUnfit 48 xs)) _ (g .1) in
+    let i = accepted-by (ltb (firstUnfit 0 tw) (length tw)) (Twiddle (firstUnfit 0 tw)) _ (h .1) in
     let w = width-bounds W (not-false _ (d .0)) in
     record {
-      planned = not-false _ (a .0);
-      known = ltb-true j (p .count) (not-false _ (b .0));
-      width = w .0;
-      narrow = w .1;
-      source = eqb-true (length xs) (2 * p .half) (not-false _ (e .0));
-      target = eqb-true output (2 * p .half) (not-false _ (f .0));
-      lent = eqb-true (length tw) _ (not-false _ (g .0));
+      workable =
+          record {
+            planned = not-false _ (a .0);
+            known = ltb-true j (p .count) (not-false _ (b .0));
+            width = w .0;
+            narrow = w .1;
+            source = eqb-true (length xs) (2 * p .half) (not-false _ (e .0));
+            target = eqb-true output (2 * p .half) (not-false _ (f .0));
+            lent = eqb-true (length tw) _ (not-false _ (g .0));
+          };
+      numbers = ltb-false (firstUnfit 48 xs) (length xs) (h .0);
+      twiddles = ltb-false (firstUnfit 0 tw) (length tw) (i .0);
     }
 
 pub stage-workable : (p : Record) (j W : ℕ) (xs : List Float) (output : ℕ) (tw : List Float) (v : Verdict) → v ≡ stageVerdict p j W xs output tw → v ≡ Accepted
     → Workable p j W (length xs) (length tw) output
-stage-workable p j W xs output tw v told e = accepted-first p j W xs output tw (sym told ∙ e)
+stage-workable p j W xs output tw v told e = stage-taken p j W xs output tw (sym told ∙ e) .workable
