@@ -1,26 +1,5 @@
 /* listed.c: a C host that runs the listed lists and sums, and compares what is answered. Exits 1 on a difference. */
-#include "ladlespindle.h"
-#include <stdio.h>
-#include <string.h>
-
-static unsigned long checks, failed;
-
-/* Counts a check, and names it if it does not hold. */
-static void check(int holds, const char *name, const char *what)
-{
-    checks++;
-    if (holds) return;
-    failed++;
-    fprintf(stderr, "listed: %s: %s\n", name, what);
-}
-
-/* A list written as digits, in bytes. */
-static size_t digits(uint8_t *list, const char *text)
-{
-    size_t length = strlen(text);
-    for (size_t i = 0; i < length; i++) list[i] = (uint8_t)(text[i] - '0');
-    return length;
-}
+#include "host.h"
 
 static ladlespindle_record planned(const char *text)
 {
@@ -141,6 +120,5 @@ int main(void)
     lists();
     remainders();
     samples();
-    printf("listed: %lu checks, %lu failed\n", checks, failed);
-    return failed > 0;
+    return ended("listed");
 }

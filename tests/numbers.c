@@ -1,45 +1,8 @@
 /* numbers.c: a C host that transforms 10,000 blocks of whole numbers, which must come out exact, and the largest numbers at every
  * length, where every word that a call writes must be finite and within its proved bound. Exits 1 on a difference. */
-#include "ladlespindle.h"
-#include <stdio.h>
-#include <string.h>
+#include "host.h"
 
 enum { BLOCKS = 10000, LARGEST_WHOLE = 1 << 20, N = 8192, TWIDDLES = 50000 };
-
-static unsigned long checks, failed;
-
-/* Counts a check, and names it if it does not hold. */
-static void check(int holds, const char *name, size_t n, const char *what)
-{
-    checks++;
-    if (holds) return;
-    failed++;
-    fprintf(stderr, "numbers: %s at %zu: %s\n", name, n, what);
-}
-
-/* Numbers that look random, the same in every run. */
-static uint64_t state = 20261120;
-static uint32_t random_below(uint32_t bound)
-{
-    state ^= state << 13;
-    state ^= state >> 7;
-    state ^= state << 17;
-    return (uint32_t)((state >> 11) % bound);
-}
-
-static uint32_t bits(float x)
-{
-    uint32_t word;
-    memcpy(&word, &x, sizeof word);
-    return word;
-}
-
-static float of_bits(uint32_t word)
-{
-    float x;
-    memcpy(&x, &word, sizeof x);
-    return x;
-}
 
 /* A power of two. */
 static double power_of_two(size_t exponent)
@@ -64,17 +27,7 @@ static float input[N + 2], output[N + 2], scratch[6 * N], stage[TWIDDLES], end[T
 /* Any bits at all where a call may only write. */
 static void spoil(float *words, size_t length)
 {
-    for (size_t i = 0; i < length; i++) words[i] = of_bits((uint32_t)state + random_below(1u << 31) * 2);
-}
-
-/* A list of radices with this product, or none. */
-static size_t list_of(uint8_t *list, size_t n)
-{
-    static const uint8_t radices[] = {8, 7, 5, 4, 3, 2};
-    size_t length = 0;
-    for (size_t i = 0; i < sizeof radices; i++)
-        while (n % radices[i] == 0) list[length++] = radices[i], n /= radices[i];
-    return n == 1 ? length : 0;
+    for (size_t i = 0; i < length; i++) words[i] = of_bits(random_below((uint64_t)1 << 32));
 }
 
 /* A plan and how many words its twiddles are. */
@@ -128,21 +81,21 @@ static void whole(void)
             for (size_t i = 0; i < p.stage + p.end; i++)
                 (i < p.stage ? stage : end - p.stage)[i] = (float)random_below(3) - 1;
             if (random_below(2))
-                check((back ? ladlespindle_fill_inverse : ladlespindle_fill_forward)(p.plan, width, stage, p.stage, end, p.end).number == 0,
+                check_at((back ? ladlespindle_fill_inverse : ladlespindle_fill_forward)(p.plan, width, stage, p.stage, end, p.end).number == 0,
                       "a filling", n, "accepted");
             size_t room = 6 * n + random_below(8);
             if (back) {
                 ladlespindle_answer a =
                     ladlespindle_inverse(p.plan, width, input, n + 2, output, n, scratch, room, stage, p.stage, end, p.end);
-                check(a.number == 0 && a.place == 0, "an inverse of whole numbers", n, "accepted");
+                check_at(a.number == 0 && a.place == 0, "an inverse of whole numbers", n, "accepted");
                 for (size_t j = 0; j < n; j++)
-                    check((double)output[j] == (double)n * samples[j], "an inverse of whole numbers", n, "n times the sample");
+                    check_at((double)output[j] == (double)n * samples[j], "an inverse of whole numbers", n, "n times the sample");
             } else {
                 ladlespindle_answer a =
                     ladlespindle_forward(p.plan, width, samples, n, output, n + 2, scratch, room, stage, p.stage, end, p.end);
-                check(a.number == 0 && a.place == 0, "a spectrum of whole numbers", n, "accepted");
+                check_at(a.number == 0 && a.place == 0, "a spectrum of whole numbers", n, "accepted");
                 for (size_t i = 0; i < n + 2; i++)
-                    check((double)output[i] == (double)bin(samples, n, i / 2, i % 2), "a spectrum of whole numbers", n, "the sum");
+                    check_at((double)output[i] == (double)bin(samples, n, i / 2, i % 2), "a spectrum of whole numbers", n, "the sum");
                 memcpy(input, output, (n + 2) * sizeof *input);
             }
         }
@@ -171,9 +124,9 @@ static void direction(struct planned p, size_t width, int back, enum signs numbe
     spoil(scratch, 2 * n);
     ladlespindle_answer a = (back ? ladlespindle_inverse : ladlespindle_forward)(p.plan, width, input, in, output, out, scratch, 6 * n,
                                                                                 stage, p.stage, end, p.end);
-    check(a.number == 0 && a.place == 0, name, n, "accepted");
-    check(within(output, out, power_of_two(back ? bits : bits + 3)), name, n, "every word of the output");
-    check(within(scratch, back || p.plan.count > 0 ? 2 * n : n, power_of_two(bits)), name, n, "every word written in the scratch");
+    check_at(a.number == 0 && a.place == 0, name, n, "accepted");
+    check_at(within(output, out, power_of_two(back ? bits : bits + 3)), name, n, "every word of the output");
+    check_at(within(scratch, back || p.plan.count > 0 ? 2 * n : n, power_of_two(bits)), name, n, "every word written in the scratch");
 }
 
 /* Every stage by itself: what it writes is at most 2^53. */
@@ -186,8 +139,8 @@ static void stages(struct planned p, size_t width, enum signs signs)
         fill(stage, own, 1, signs);
         spoil(output, n);
         ladlespindle_answer a = ladlespindle_stage(p.plan, j, width, input, n, output, n, stage, own);
-        check(a.number == 0 && a.place == 0, "a stage of the largest", n, "accepted");
-        check(within(output, n, power_of_two(53)), "a stage of the largest", n, "every word of the output");
+        check_at(a.number == 0 && a.place == 0, "a stage of the largest", n, "accepted");
+        check_at(within(output, n, power_of_two(53)), "a stage of the largest", n, "every word of the output");
     }
 }
 
@@ -196,8 +149,8 @@ static void power(size_t n, enum signs signs)
 {
     fill(input, n + 2, (float)power_of_two(48), signs);
     ladlespindle_summed sum = ladlespindle_power(input, n + 2, 0, n / 2);
-    check(sum.number == 0 && sum.place == 0, "a power of the largest", n, "accepted");
-    check(within(&sum.power, 1, (double)(n + 2) * power_of_two(96)), "a power of the largest", n, "the sum");
+    check_at(sum.number == 0 && sum.place == 0, "a power of the largest", n, "accepted");
+    check_at(within(&sum.power, 1, (double)(n + 2) * power_of_two(96)), "a power of the largest", n, "the sum");
 }
 
 static void largest(void)
@@ -217,13 +170,12 @@ static void largest(void)
             }
         }
     }
-    check(lengths == 248, "lengths", 0, "their number");
+    check_at(lengths == 248, "lengths", 0, "their number");
 }
 
 int main(void)
 {
     whole();
     largest();
-    printf("numbers: %lu checks, %lu failed\n", checks, failed);
-    return failed > 0;
+    return ended("numbers");
 }

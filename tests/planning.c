@@ -1,26 +1,5 @@
 /* planning.c: a C host that calls every planning function and compares what they answer. Exits 1 on a difference. */
-#include "ladlespindle.h"
-#include <stdio.h>
-#include <string.h>
-
-static unsigned long checks, failed;
-
-/* Counts a check, and names it if it does not hold. */
-static void check(int holds, const char *name, const char *what)
-{
-    checks++;
-    if (holds) return;
-    failed++;
-    fprintf(stderr, "planning: %s: %s\n", name, what);
-}
-
-/* A list written as digits, in bytes. */
-static size_t digits(uint8_t *list, const char *text)
-{
-    size_t length = strlen(text);
-    for (size_t i = 0; i < length; i++) list[i] = (uint8_t)(text[i] - '0');
-    return length;
-}
+#include "host.h"
 
 /* An array of 13 holds these bytes and then 0s. */
 static int holds(const uint8_t *array, const uint8_t *list, size_t length)
@@ -370,6 +349,5 @@ int main(void)
     false_records();
     scalings();
     scaling_refusals();
-    printf("planning: %lu checks, %lu failed\n", checks, failed);
-    return failed > 0;
+    return ended("planning");
 }

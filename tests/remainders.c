@@ -1,31 +1,8 @@
 /* remainders.c: a C host that runs stages in remainders and compares every cell with sums worked out by their definition.
  * Exits 1 on a difference. */
-#include "ladlespindle.h"
-#include <stdio.h>
-#include <string.h>
+#include "host.h"
 
 enum { MOST = 4096, EDGE = 8, LARGE = 256 };
-
-static unsigned long checks, failed;
-
-/* Counts a check, and names it if it does not hold. */
-static void check(int holds, const char *name, const char *what)
-{
-    checks++;
-    if (holds) return;
-    failed++;
-    fprintf(stderr, "remainders: %s: %s\n", name, what);
-}
-
-/* Numbers that look random, the same in every run. */
-static uint64_t state = 20261115;
-static uint32_t random_below(uint64_t bound)
-{
-    state ^= state << 13;
-    state ^= state >> 7;
-    state ^= state << 17;
-    return (uint32_t)((state >> 11) % bound);
-}
 
 /* A buffer between two edges that no call may write. */
 struct buffer {
@@ -293,6 +270,5 @@ int main(void)
     listed();
     refusals();
     random_runs();
-    printf("remainders: %lu checks, %lu failed\n", checks, failed);
-    return failed > 0;
+    return ended("remainders");
 }

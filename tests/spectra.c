@@ -1,45 +1,8 @@
 /* spectra.c: a C host that runs both transforms and sums of power, and compares every word with the steps worked out here, and every
  * filled length with the sums that define it. Exits 1 on a difference. */
-#include "ladlespindle.h"
-#include <stdio.h>
-#include <string.h>
+#include "host.h"
 
 enum { INPUT, OUTPUT, SCRATCH, STAGE, END, SLICES, EDGE = 9, ROOM = 50000, CELLS = 4096, PARTS = 6720 };
-
-static unsigned long checks, failed;
-
-/* Counts a check, and names it if it does not hold. */
-static void check(int holds, const char *name, size_t n, const char *what)
-{
-    checks++;
-    if (holds) return;
-    failed++;
-    fprintf(stderr, "spectra: %s at %zu: %s\n", name, n, what);
-}
-
-/* Numbers that look random, the same in every run. */
-static uint64_t state = 20261117;
-static uint32_t random_below(uint32_t bound)
-{
-    state ^= state << 13;
-    state ^= state >> 7;
-    state ^= state << 17;
-    return (uint32_t)((state >> 11) % bound);
-}
-
-static uint32_t bits(float x)
-{
-    uint32_t word;
-    memcpy(&word, &x, sizeof word);
-    return word;
-}
-
-static float of_bits(uint32_t word)
-{
-    float x;
-    memcpy(&x, &word, sizeof x);
-    return x;
-}
 
 /* A number of magnitude up to 2^exponent: any, small, subnormal, a zero of either sign, or the largest. */
 static float random_number(int exponent)
@@ -191,16 +154,6 @@ struct call {
 
 static float lent[SLICES][ROOM], want[SLICES][ROOM];
 
-/* A list of radices with this product, or none. */
-static size_t list_of(uint8_t *list, size_t n)
-{
-    static const uint8_t radices[] = {8, 7, 5, 4, 3, 2};
-    size_t length = 0;
-    for (size_t i = 0; i < sizeof radices; i++)
-        while (n % radices[i] == 0) list[length++] = radices[i], n /= radices[i];
-    return n == 1 ? length : 0;
-}
-
 /* A call of the length n with slices as they should be. */
 static struct call right(int back, size_t n, size_t width)
 {
@@ -286,10 +239,10 @@ static void accepted(const char *name, struct call c)
 {
     work_out(c);
     ladlespindle_answer answer = called(c, random_below(2) == 0);
-    check(answer.number == 0 && answer.place == 0, name, c.plan.n, "accepted");
-    check(memcmp(lent[OUTPUT] + EDGE, want[OUTPUT] + EDGE, c.length[OUTPUT] * sizeof **want) == 0, name, c.plan.n, "every word of the output");
-    check(memcmp(lent[SCRATCH] + EDGE, want[SCRATCH] + EDGE, c.length[SCRATCH] * sizeof **want) == 0, name, c.plan.n, "every word of the scratch");
-    check(as_wanted(c), name, c.plan.n, "nothing else is written");
+    check_at(answer.number == 0 && answer.place == 0, name, c.plan.n, "accepted");
+    check_at(memcmp(lent[OUTPUT] + EDGE, want[OUTPUT] + EDGE, c.length[OUTPUT] * sizeof **want) == 0, name, c.plan.n, "every word of the output");
+    check_at(memcmp(lent[SCRATCH] + EDGE, want[SCRATCH] + EDGE, c.length[SCRATCH] * sizeof **want) == 0, name, c.plan.n, "every word of the scratch");
+    check_at(as_wanted(c), name, c.plan.n, "nothing else is written");
 }
 
 static void refused(const char *name, struct call c, uint32_t number, size_t at)
@@ -299,9 +252,9 @@ static void refused(const char *name, struct call c, uint32_t number, size_t at)
     want_as_lent(c);
     for (int null = 0; null <= empty; null++) {
         ladlespindle_answer answer = called(c, null);
-        check(answer.number == number, name, c.plan.n, "number");
-        check(answer.place == at, name, c.plan.n, "place");
-        check(as_wanted(c), name, c.plan.n, "nothing is written");
+        check_at(answer.number == number, name, c.plan.n, "number");
+        check_at(answer.place == at, name, c.plan.n, "place");
+        check_at(as_wanted(c), name, c.plan.n, "nothing is written");
     }
 }
 
@@ -355,7 +308,7 @@ static void fill(struct call c)
     float *stage = lent[STAGE] + EDGE, *end = lent[END] + EDGE;
     ladlespindle_answer answer = c.back ? ladlespindle_fill_inverse(c.plan, c.width, stage, c.length[STAGE], end, c.length[END])
                                         : ladlespindle_fill_forward(c.plan, c.width, stage, c.length[STAGE], end, c.length[END]);
-    check(answer.number == 0, "a filling", c.plan.n, "accepted");
+    check_at(answer.number == 0, "a filling", c.plan.n, "accepted");
 }
 
 /* All lengths that can be filled, with their twiddles, and with zeros alone. */
@@ -373,17 +326,17 @@ static void filled(void)
                 numbers(c, RANDOM);
                 fill(c);
                 accepted(back ? "filled inverse" : "filled forward", c);
-                check(width > 1 || near_sums(c), back ? "filled inverse" : "filled forward", n, "the sums that define it");
+                check_at(width > 1 || near_sums(c), back ? "filled inverse" : "filled forward", n, "the sums that define it");
                 memset(lent[INPUT] + EDGE, 0, c.length[INPUT] * sizeof **lent);
                 accepted("zeros", c);
                 for (size_t k = 0; k <= c.plan.half && !back; k++) {
                     const float *bin = lent[OUTPUT] + EDGE + 2 * k;
                     int flipped = 2 * k >= c.plan.half && k < c.plan.half;
-                    check(bits(bin[0]) == 0 && bits(bin[1]) == (flipped ? 0x80000000 : 0), "zeros", n, "their signs");
+                    check_at(bits(bin[0]) == 0 && bits(bin[1]) == (flipped ? 0x80000000 : 0), "zeros", n, "their signs");
                 }
             }
     }
-    check(lengths == 48, "lengths that can be filled", 0, "their number");
+    check_at(lengths == 48, "lengths that can be filled", 0, "their number");
 }
 
 /* Every length with any words up to 1, scratch and an inverse's output longer than they need be. */
@@ -405,7 +358,7 @@ static void any_words(void)
                     accepted(back ? "inverse" : "forward", c);
                 }
     }
-    check(lengths == 248, "lengths", 0, "their number");
+    check_at(lengths == 248, "lengths", 0, "their number");
 }
 
 /* One slice lent three times over to be read. */
@@ -421,7 +374,7 @@ static void overlapping(void)
         float *read = lent[STAGE] + EDGE;
         ladlespindle_answer answer = both[back](c.plan, 4, read, c.length[INPUT], lent[OUTPUT] + EDGE, c.length[OUTPUT], lent[SCRATCH] + EDGE,
                                                 c.length[SCRATCH], read, c.length[STAGE], read, c.length[END]);
-        check(answer.number == 0 && as_wanted(c), "slices that overlap", 64, "every word");
+        check_at(answer.number == 0 && as_wanted(c), "slices that overlap", 64, "every word");
     }
 }
 
@@ -432,8 +385,8 @@ static void gives(const char *name, int back, size_t n, const float *in, const f
     mark(c);
     fill(c);
     memcpy(lent[INPUT] + EDGE, in, c.length[INPUT] * sizeof **lent);
-    check(called(c, 1).number == 0, name, n, "accepted");
-    check(memcmp(lent[OUTPUT] + EDGE, out, c.length[OUTPUT] * sizeof **lent) == 0, name, n, "every word");
+    check_at(called(c, 1).number == 0, name, n, "accepted");
+    check_at(memcmp(lent[OUTPUT] + EDGE, out, c.length[OUTPUT] * sizeof **lent) == 0, name, n, "every word");
 }
 
 /* Whole-number samples at n = 2 and 4: the exact transform, and n times the samples back. */
@@ -449,12 +402,12 @@ static void exact(const int32_t *x)
         memcpy(lent[INPUT] + EDGE, samples, n * sizeof *samples);
         int same = called(c, 0).number == 0;
         for (size_t i = 0; i < n + 2; i++) same = same && lent[OUTPUT][EDGE + i] == (float)(n == 2 ? two : four)[i];
-        check(same, "whole numbers", n, "the exact transform");
+        check_at(same, "whole numbers", n, "the exact transform");
         memcpy(lent[INPUT] + EDGE, lent[OUTPUT] + EDGE, (n + 2) * sizeof *samples);
         same = called(b, 0).number == 0;
         memcpy(back, lent[OUTPUT] + EDGE, n * sizeof *back);
         for (size_t j = 0; j < n; j++) same = same && back[j] == (float)((int32_t)n * x[j]);
-        check(same, "whole numbers", n, "n times the samples");
+        check_at(same, "whole numbers", n, "n times the samples");
     }
 }
 
@@ -467,7 +420,7 @@ static void known(void)
     gives("their spectrum", 1, 4, spectrum, again);
     gives("a spectrum of zeros", 1, 4, zeros, signs);
     ladlespindle_summed summed = ladlespindle_power(spectrum, 6, 0, 2);
-    check(summed.number == 0 && summed.place == 0 && summed.power == 112, "their spectrum", 4, "its power");
+    check_at(summed.number == 0 && summed.place == 0 && summed.power == 112, "their spectrum", 4, "its power");
     for (int i = 0; i < 7 * 7 * 7 * 7; i++) exact((int32_t[]){whole[i % 7], whole[i / 7 % 7], whole[i / 49 % 7], whole[i / 343]});
     for (int i = 0; i < 2000; i++) {
         int32_t x[4];
@@ -600,16 +553,16 @@ static void sums(size_t length, size_t lo, size_t hi)
     float sum = 0;
     for (size_t k = lo; k <= hi; k++) sum += spectrum[2 * k] * spectrum[2 * k] + spectrum[2 * k + 1] * spectrum[2 * k + 1];
     ladlespindle_summed summed = ladlespindle_power(spectrum, length, lo, hi);
-    check(summed.number == 0 && summed.place == 0, "a power", length, "accepted");
-    check(bits(summed.power) == bits(sum), "a power", length, "the sum");
+    check_at(summed.number == 0 && summed.place == 0, "a power", length, "accepted");
+    check_at(bits(summed.power) == bits(sum), "a power", length, "the sum");
 }
 
 static void no_sum(const char *name, size_t length, size_t lo, size_t hi, uint32_t number, size_t at)
 {
     ladlespindle_summed summed = ladlespindle_power(spectrum, length, lo, hi);
-    check(summed.number == number, name, length, "number");
-    check(summed.place == at, name, length, "place");
-    check(bits(summed.power) == 0, name, length, "no sum");
+    check_at(summed.number == number, name, length, "number");
+    check_at(summed.place == at, name, length, "place");
+    check_at(bits(summed.power) == 0, name, length, "no sum");
 }
 
 static void powers(void)
@@ -618,9 +571,9 @@ static void powers(void)
     static const float steps[] = {4096, 0, 1, 0, 1, 0, 1, 0, 1, 1};
     static float copy[8196];
     memcpy(spectrum, steps, sizeof steps);
-    check(ladlespindle_power(spectrum, 10, 0, 3).power == 16777216, "the order of a sum", 10, "ascending");
-    check(ladlespindle_power(spectrum, 10, 1, 4).power == 5, "the order of a sum", 10, "ascending");
-    check(ladlespindle_power(spectrum, 10, 0, 4).power == 16777218, "the order of a sum", 10, "a bin at a time");
+    check_at(ladlespindle_power(spectrum, 10, 0, 3).power == 16777216, "the order of a sum", 10, "ascending");
+    check_at(ladlespindle_power(spectrum, 10, 1, 4).power == 5, "the order of a sum", 10, "ascending");
+    check_at(ladlespindle_power(spectrum, 10, 0, 4).power == 16777218, "the order of a sum", 10, "a bin at a time");
     for (size_t i = 0; i < sizeof lengths / sizeof *lengths; i++) {
         size_t length = lengths[i], last = length / 2 - 1;
         for (size_t k = 0; k < length; k++) spectrum[k] = of_bits(random_below(2) << 31 | 0x57800000);
@@ -656,10 +609,10 @@ static void powers(void)
             no_sum("a wrong length", wrong[k], 1, 0, LADLESPINDLE_LENGTH, 0);
         }
         spectrum[length - 1] = copy[length - 1], spectrum[1] = copy[1];
-        check(memcmp(spectrum, copy, sizeof copy) == 0, "a spectrum", length, "not written");
+        check_at(memcmp(spectrum, copy, sizeof copy) == 0, "a spectrum", length, "not written");
     }
     ladlespindle_summed summed = ladlespindle_power(NULL, 0, 0, 0);
-    check(summed.number == LADLESPINDLE_LENGTH && summed.place == 0 && bits(summed.power) == 0, "no spectrum", 0, "refused");
+    check_at(summed.number == LADLESPINDLE_LENGTH && summed.place == 0 && bits(summed.power) == 0, "no spectrum", 0, "refused");
 }
 
 int main(void)
@@ -670,6 +623,5 @@ int main(void)
     known();
     refusals();
     powers();
-    printf("spectra: %lu checks, %lu failed\n", checks, failed);
-    return failed > 0;
+    return ended("spectra");
 }

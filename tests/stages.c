@@ -1,38 +1,8 @@
 /* stages.c: a C host that runs single float stages and compares every word with the stage worked out step by step.
  * Exits 1 on a difference. */
-#include "ladlespindle.h"
-#include <stdio.h>
-#include <string.h>
+#include "host.h"
 
 enum { CELLS = 4096, WORDS = 40000, EDGE = 8 };
-
-static unsigned long checks, failed;
-
-/* Counts a check, and names it if it does not hold. */
-static void check(int holds, const char *name, const char *what)
-{
-    checks++;
-    if (holds) return;
-    failed++;
-    fprintf(stderr, "stages: %s: %s\n", name, what);
-}
-
-/* Numbers that look random, the same in every run. */
-static uint64_t state = 20261116;
-static uint32_t random_below(uint32_t bound)
-{
-    state ^= state << 13;
-    state ^= state >> 7;
-    state ^= state << 17;
-    return (uint32_t)((state >> 11) % bound);
-}
-
-static float of_bits(uint32_t word)
-{
-    float x;
-    memcpy(&x, &word, sizeof x);
-    return x;
-}
 
 /* ---- a stage, step by step */
 
@@ -95,16 +65,6 @@ static void plain(ladlespindle_record plan, size_t number, size_t width, const f
 }
 
 /* ---- accepted stages */
-
-/* A list of radices with this product, or none. */
-static size_t list_of(uint8_t *list, size_t n)
-{
-    static const uint8_t radices[] = {8, 7, 5, 4, 3, 2};
-    size_t length = 0;
-    for (size_t i = 0; i < sizeof radices; i++)
-        while (n % radices[i] == 0) list[length++] = radices[i], n /= radices[i];
-    return n == 1 ? length : 0;
-}
 
 /* A number of magnitude up to 2^48 or up to 1: any, small, subnormal, a zero of either sign, or the largest. */
 static float random_number(int exponent)
@@ -243,6 +203,5 @@ int main(void)
 {
     accepted();
     refusals();
-    printf("stages: %lu checks, %lu failed\n", checks, failed);
-    return failed > 0;
+    return ended("stages");
 }

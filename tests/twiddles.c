@@ -1,28 +1,8 @@
 /* twiddles.c: a C host that compares turns with cosines worked out afresh, and filled twiddles with the turns, place by place.
  * Exits 1 on a difference. */
-#include "ladlespindle.h"
-#include <stdio.h>
-#include <string.h>
+#include "host.h"
 
 enum { PARTS = 6720, STAGE = 40000, EDGE = 8 };
-
-static unsigned long checks, failed;
-
-/* Counts a check, and names it if it does not hold. */
-static void check(int holds, const char *name, const char *what)
-{
-    checks++;
-    if (holds) return;
-    failed++;
-    fprintf(stderr, "twiddles: %s: %s\n", name, what);
-}
-
-static uint32_t bits(float x)
-{
-    uint32_t word;
-    memcpy(&word, &x, sizeof word);
-    return word;
-}
 
 /* ---- cosines, by their Taylor sum in 64 binary digits */
 
@@ -110,16 +90,6 @@ static int kept(const struct words *w, size_t used)
     for (size_t i = 0; i < sizeof *w; i++)
         if ((i < first || i >= end) && byte[i] != 0xff) return 0;
     return 1;
-}
-
-/* A list of radices with this product, or none. */
-static size_t list_of(uint8_t *list, size_t n)
-{
-    static const uint8_t radices[] = {8, 7, 5, 4, 3, 2};
-    size_t length = 0;
-    for (size_t i = 0; i < sizeof radices; i++)
-        while (n % radices[i] == 0) list[length++] = radices[i], n /= radices[i];
-    return n == 1 ? length : 0;
 }
 
 typedef ladlespindle_answer filler(ladlespindle_record, size_t, float *, size_t, float *, size_t);
@@ -233,6 +203,5 @@ int main(void)
     turns();
     fillings();
     refusals();
-    printf("twiddles: %lu checks, %lu failed\n", checks, failed);
-    return failed > 0;
+    return ended("twiddles");
 }

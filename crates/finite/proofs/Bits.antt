@@ -8,8 +8,7 @@ use lib.Dec.{T}
 use lib.Ieee.{Float, nan, inf, fin, binary32, isNan, toBits}
 use lib.Ieee.Bits.{toBits-ofBits}
 use Rattle.finite.specs.Bits.{Holds, HoldAll, SameBits}
-use Rattle.finite.specs.Sizes.{AtMost}
-use Rattle.finite.proofs.Words.{Words}
+use Rattle.finite.specs.Sizes.{AtMost, Words}
 
 -- a float with a size is no NaN
 sized : (q k : ℕ) (x : Float) → AtMost q k x → T (not (isNan x))

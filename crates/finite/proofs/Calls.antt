@@ -29,15 +29,15 @@ use Rattle.stage.proofs.Theorems.{stage-told, stage-left}
 use Rattle.stage.proofs.Verdicts.{stage-taken}
 use Rattle.spectrum.specs.Calls.{Forwards, Inverts}
 use Rattle.spectrum.specs.Power.{powerOf, powerFrom, powerVerdict, Powers, summed}
-use Rattle.spectrum.specs.Transforms.{Slices, dataOf, padOf}
+use Rattle.spectrum.specs.Transforms.{Slices}
 use Rattle.spectrum.specs.declared.Summed.{Summed}
 use Rattle.spectrum.proofs.Sums.{bins-told}
 use Rattle.spectrum.proofs.Verdicts.{lent-taken, forwardable, invertible}
-use Rattle.finite.specs.Sizes.{AtMost}
+use Rattle.finite.specs.Sizes.{AtMost, Words, Within}
 use Rattle.finite.proofs.Ends.{zero-most}
 use Rattle.finite.proofs.Sizes.{add-most, mul-most, most-wider}
 use Rattle.finite.proofs.Stages.{OnesIn, stage-all}
-use Rattle.finite.proofs.Words.{Words, scan-words, cell-both, words-cells, cells-words, stage-cells}
+use Rattle.finite.proofs.Words.{scan-words, cell-both, words-cells, cells-words, stage-cells}
 use Rattle.finite.proofs.Transforms.{front-words, back-words, forward-words, forward-scratch, inverse-words, inverse-scratch}
 
 -- ---- a stage
@@ -114,10 +114,6 @@ module _ (xs : List Float) (lo hi : ℕ) (r : Summed) (s : Powers xs lo hi r) (e
       subst (AtMost 8194 (k + k)) (sym (summing .1)) (most-wider (2 * n) 8194 (k + k) (powerFrom xs lo n) words (power-most xs k few w lo n (omega (arith, t .0, t .1)) (t .2)))
 
 -- ---- both directions
-
--- a bound on the output, and one on Data and, where there are at least so many stages, on the Scratchpad
-abbrev pub Within : (stages : ℕ) → Record → (out scratch : ℕ) → Slices → Type 0
-Within stages p out scratch s = Words out (s .0) × Words scratch (dataOf (p .half) (s .1)) × (stages ≤ p .count → Words scratch (padOf (p .half) (s .1)))
 
 module _ (p : Record) (W : ℕ) (stage end xs : List Float) (before : Slices) (r : Verdict) (after : Slices) where
   module _ (f : Forwards p W stage end xs before r after) (e : r ≡ Accepted) where

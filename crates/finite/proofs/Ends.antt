@@ -12,10 +12,10 @@ use Rattle.schedule.proofs.Cells.{length-tabulate, getD-tabulate}
 use Rattle.floats.specs.Complexes.{blank, plus, minus, conjugate, cell, flat}
 use Rattle.floats.specs.declared.complex.Complex.{Complex}
 use Rattle.ends.specs.Ends.{+0, 0·5, mixed, fftNear, fftFar, ifftNear, ifftFar, Steps, endCell, fftSteps, ifftSteps, conjugated}
-use Rattle.finite.specs.Sizes.{AtMost, Both}
+use Rattle.finite.specs.Sizes.{AtMost, Both, Words}
 use Rattle.finite.proofs.Sizes.{Room, add-most, sub-most, mul-most, neg-most}
 use Rattle.finite.proofs.Stages.{six, plus-both, minus-both, once-most, both-shifted, conjugate-both}
-use Rattle.finite.proofs.Words.{Words, cells-words}
+use Rattle.finite.proofs.Words.{cells-words}
 
 -- ---- numbers of the steps
 

@@ -14,11 +14,10 @@ use Rattle.twiddle.specs.Twiddles.{twiddle, stageWords, stagesWords, 0·5, dire
 use Rattle.twiddle.specs.Words.{pairs, packed}
 use Rattle.twiddle.specs.declared.inner.ends.Direction.{Direction}
 use Rattle.twiddle.specs.declared.inner.ends.Direction.the-variants.{Forward, Inverse}
-use Rattle.finite.specs.Sizes.{AtMost}
+use Rattle.finite.specs.Sizes.{AtMost, Words}
 use Rattle.finite.proofs.Sizes.{Room, mul-most, neg-most}
 use Rattle.finite.proofs.Stages.{small-most}
 use Rattle.finite.proofs.Transforms.{joined-words}
-use Rattle.finite.proofs.Words.{Words}
 
 -- two words at most 1
 abbrev pub Ones : Float × Float → Type 0

@@ -24,14 +24,13 @@ use Rattle.spectrum.specs.Transforms.{Slices, dataOf, padOf}
 use Rattle.spectrum.specs.declared.Summed.{Summed}
 use Rattle.spectrum.proofs.Unique.{Forwards-one, Inverts-one, Powers-one}
 use Rattle.spectrum.proofs.Verdicts.{forwardable, invertible}
-use Rattle.finite.specs.Bits.{Holds, SameBits}
-use Rattle.finite.specs.Sizes.{AtMost}
+use Rattle.finite.specs.Bits.{Holds, SameBits, SameWritten}
+use Rattle.finite.specs.Sizes.{AtMost, Words, Within}
 use Rattle.finite.specs.Whole.{IsWhole, Short, Small, Samples, IsBins}
 use Rattle.finite.proofs.Bits.{same-word, same-bits}
-use Rattle.finite.proofs.Calls.{Within, stage-lent-within, stage-within, summed-within, power-within, samples-within, forward-within, bins-within, inverse-within}
+use Rattle.finite.proofs.Calls.{stage-lent-within, stage-within, summed-within, power-within, samples-within, forward-within, bins-within, inverse-within}
 use Rattle.finite.proofs.Exact.{forward-whole, inverse-whole}
 use Rattle.finite.proofs.Fillings.{filled-ones}
-use Rattle.finite.proofs.Words.{Words}
 
 -- ---- exact, at lengths 2 and 4
 
@@ -80,11 +79,6 @@ power-finite xs lo hi r s e = power-within xs lo hi r s e 48 (lit≤ tt) (summed
 pub stage-bits : (p : Record) (j W : ℕ) (xs out tw : List Float) (r r′ : Verdict) (ys ys′ : List Float)
     → Stages p j W xs out tw r ys → Stages p j W xs out tw r′ ys′ → r ≡ Accepted → SameBits ys ys′
 stage-bits p j W xs out tw r r′ ys ys′ s s′ e = same-bits 53 ys ys′ (stage-finite p j W xs out tw r ys s e) (Stages-one p j W xs out tw s s′ .1)
-
--- the words that a direction writes: the output, Data and, where there are at least so many stages, the Scratchpad
-abbrev pub SameWritten : (stages : ℕ) → Record → Slices → Slices → Type 0
-SameWritten stages p s s′ =
-    SameBits (s .0) (s′ .0) × SameBits (dataOf (p .half) (s .1)) (dataOf (p .half) (s′ .1)) × (stages ≤ p .count → SameBits (padOf (p .half) (s .1)) (padOf (p .half) (s′ .1)))
 
 written : (stages : ℕ) (p : Record) (k l : ℕ) (s s′ : Slices) → Within stages p k l s → s ≡ s′ → SameWritten stages p s s′
 written stages p k l s s′ w e = (

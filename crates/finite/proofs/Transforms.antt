@@ -31,10 +31,10 @@ use Rattle.spectrum.specs.Parts.{Forwardable, Invertible}
 use Rattle.spectrum.specs.Transforms.{dataOf, padOf, forwardRun, forwardOf, preparedOf, inverseRun, restored, inverseOf}
 use Rattle.spectrum.proofs.Scratch.{data-length, pad-length, both-data, both-pad, run-long}
 use Rattle.spectrum.proofs.Transforms.{plan-some, plan-twice, pairs-lent, held-long}
-use Rattle.finite.specs.Sizes.{AtMost, Both}
+use Rattle.finite.specs.Sizes.{AtMost, Both, Words}
 use Rattle.finite.proofs.Ends.{zero-most, fft-cell, ifft-cell, tabulated-words, conjugated-words}
 use Rattle.finite.proofs.Stages.{Ones}
-use Rattle.finite.proofs.Words.{Words, cell-both, run-words}
+use Rattle.finite.proofs.Words.{cell-both, run-words}
 
 -- ---- two rows joined
 

@@ -26,13 +26,9 @@ use Rattle.kernel.specs.Floats.{floats}
 use Rattle.stage.specs.Runs.{ownOf, stageIn, runOf, lentTo}
 use Rattle.stage.proofs.Runs.{length-made}
 use Rattle.stage.proofs.Same.{stage-lent}
-use Rattle.finite.specs.Sizes.{AtMost, Both}
+use Rattle.finite.specs.Sizes.{AtMost, Both, Words}
 use Rattle.finite.proofs.Sizes.{fits-most, most-shifted}
 use Rattle.finite.proofs.Stages.{All, Ones, stage-all}
-
--- every word of a row is finite and at most 2 ^ k
-abbrev pub Words : (k : ℕ) → List Float → Type 0
-Words k xs = (i : ℕ) → i < length xs → AtMost 1 k (getD xs i nan)
 
 -- ---- what a scan tells
 
