@@ -3,9 +3,22 @@
  * Every function takes whatever it is lent, ends, and allocates nothing. A list is bytes, one radix each: 2, 3, 4, 5,
  * 7 or 8. Its product is the length n, even and at most 8,192.
  *
+ * TWIDDLES ARE THE HOST'S TO GET RIGHT. A transform and a stage cannot tell wrong twiddle words from right ones: lent the words of another
+ * plan, another width or another direction, of the same number and none above 1, they answer 0, and the numbers are wrong. Fill them
+ * with the plan and the width of the transform, and lend what was filled, unchanged.
+ *
+ * `width` says how twiddle words are packed: 1, 2 or 4. Use 1; answers never differ. Words that are packed for one width are
+ * lent with that width.
+ *
  * Lengths are in elements. NULL with length 0 is an empty list. Lists that are only read may overlap each other; a
  * buffer that a call writes may overlap nothing else that is lent to it. What a refused call was lent is as it was.
  * The floating-point settings must be those that a C program starts with: rounding to nearest, subnormals kept.
+ *
+ * Calls share nothing: there is no state behind them, so they may run in several threads at once, as long as no buffer that one of
+ * them writes is lent to another meanwhile. Lists, plans and twiddle words that are only read may be lent to all.
+ *
+ * Stack: a filling or a single turn takes at most 16 KB, which is the table of turns; a float stage or a transform at most 8 KB; any
+ * other call at most 2 KB.
  *
  * To link (x86-64 Linux, any C library): `rt staticlib ladlespindle` proves the functions and writes
  * target/staticlib/libladlespindle.a, which wants nothing but memcpy and memset:
@@ -32,7 +45,7 @@ enum ladlespindle_refusal {
     LADLESPINDLE_NOT_PLANNED = 5, /* the plan is not one that planning gives */
     LADLESPINDLE_WIDTH = 6,       /* the width is not 1, 2 or 4 */
     LADLESPINDLE_NOT_HOUSED = 7,  /* the house table does not serve the length, or the parts of a circle */
-    LADLESPINDLE_LENGTH = 8,      /* a lent length is wrong; place: 0 input, 1 output, 2 scratch, 3 stage, 4 end twiddles */
+    LADLESPINDLE_LENGTH = 8,      /* a lent length is wrong; place: 0 input, 1 output, 2 scratch, 3 stage twiddles, 4 end twiddles */
     LADLESPINDLE_NUMBER = 9,      /* a number is not finite or too large; place: its index */
     LADLESPINDLE_TWIDDLE = 10,    /* a twiddle's number is not finite or above 1; place: its index, stage then end */
     LADLESPINDLE_MODULUS = 11,    /* the modulus is below 2 */
@@ -159,12 +172,12 @@ ladlespindle_turn_words ladlespindle_turn(uint32_t t, uint32_t l);
 
 /* The twiddles of a plan for the forward and for the inverse transform, two words each: those of the stages, packed for a
  * width of 1, 2 or 4, and those of the ends. The lengths are twice ladlespindle_stage_twiddles and twice
- * ladlespindle_end_twiddles. Refused, in this order, with 5, 6, 7 (the plan's length does not divide 6,720) and 8 (place 3:
- * stage; 4: end). */
-ladlespindle_answer ladlespindle_fill_forward(ladlespindle_record plan, size_t width, float *stage, size_t stage_length, float *end,
-                                              size_t end_length);
-ladlespindle_answer ladlespindle_fill_inverse(ladlespindle_record plan, size_t width, float *stage, size_t stage_length, float *end,
-                                              size_t end_length);
+ * ladlespindle_end_twiddles. Both directions have the same stage words, so that one set of them serves both; the end words differ.
+ * Refused, in this order, with 5, 6, 7 (the plan's length does not divide 6,720) and 8 (place 3: stage_twiddles; 4: end_twiddles). */
+ladlespindle_answer ladlespindle_fill_forward(ladlespindle_record plan, size_t width, float *stage_twiddles,
+                                              size_t stage_twiddles_length, float *end_twiddles, size_t end_twiddles_length);
+ladlespindle_answer ladlespindle_fill_inverse(ladlespindle_record plan, size_t width, float *stage_twiddles,
+                                              size_t stage_twiddles_length, float *end_twiddles, size_t end_twiddles_length);
 
 /* Stage `number` of a plan, counted from 0, in floats: the cells of the input, two numbers each, make those of the output. The
  * stage's own twiddles are lent, packed for a width of 1, 2 or 4: two numbers for each of (half / r) * (r - 1), r being its
@@ -175,21 +188,21 @@ ladlespindle_answer ladlespindle_stage(ladlespindle_record plan, size_t number, 
 
 /* Both transforms, unnormalised, so that one after the other gives n times the samples. A spectrum is the bins 0 to half, two
  * numbers each. Scratch has at least 6n numbers: the first 2n are left as the steps leave them, the others are not written. The
- * twiddles are lent, packed for a width of 1, 2 or 4: those that ladlespindle_fill_forward or ladlespindle_fill_inverse fills, or,
- * where the length does not divide 6,720, the host's own. Refused, in this order, with 5, 6, 8 (places 0 to 4), 9 (a sample above
- * 2^32 in magnitude, a number of a bin above 2^48, or not finite) and 10 (place: the index in the stage twiddles followed by
- * the end twiddles).
+ * twiddles are lent, packed for `width`: those that ladlespindle_fill_forward or ladlespindle_fill_inverse fills, or, where the length
+ * does not divide 6,720, the host's own; WRONG ONES ARE NOT NOTICED (above). Refused, in this order, with 5, 6, 8 (places 0 to 4), 9 (a
+ * sample above 2^32 in magnitude, a number of a bin above 2^48, or not finite) and 10 (place: the index in stage_twiddles followed by
+ * end_twiddles).
  *
  * Forward: n samples make a spectrum of 2 * (half + 1) numbers, no more and no fewer. */
 ladlespindle_answer ladlespindle_forward(ladlespindle_record plan, size_t width, const float *input, size_t input_length, float *output,
-                                         size_t output_length, float *scratch, size_t scratch_length, const float *stage,
-                                         size_t stage_length, const float *end, size_t end_length);
+                                         size_t output_length, float *scratch, size_t scratch_length, const float *stage_twiddles,
+                                         size_t stage_twiddles_length, const float *end_twiddles, size_t end_twiddles_length);
 
 /* Inverse: a spectrum makes n samples; the output has at least n numbers and is +0 after them. In bins 0 and half the imaginary
  * part is subtracted from the real part. */
 ladlespindle_answer ladlespindle_inverse(ladlespindle_record plan, size_t width, const float *input, size_t input_length, float *output,
-                                         size_t output_length, float *scratch, size_t scratch_length, const float *stage,
-                                         size_t stage_length, const float *end, size_t end_length);
+                                         size_t output_length, float *scratch, size_t scratch_length, const float *stage_twiddles,
+                                         size_t stage_twiddles_length, const float *end_twiddles, size_t end_twiddles_length);
 
 /* The power of the bins lo to hi of a spectrum, both included: re * re + im * im of each, added from +0 in ascending order.
  * Refused, in this order, with 8 (place 0: the length is odd, below 4 or above 8,194), 14 (lo above hi, or hi no bin) and 9 (a
