@@ -76,6 +76,10 @@ module _ (p : Record) (planned : isPlanned p ≡ true) where
   use-four : p .n ≡ 4 → inUse p ≡ 2 ∷ []
   use-four e = product-two (inUse p) use-twos (sym (use-product p planned) ∙ half-as 2 e)
 
+  pub short-count : Short (p .n) → p .count ≤ 1
+  short-count (inl e) = omega (arith, sym (use-length p planned) ∙ ap length (use-two e))
+  short-count (inr e) = omega (arith, sym (use-length p planned) ∙ ap length (use-four e))
+
 -- ---- the words that both directions leave at these lengths
 
 -- the sum and the difference of two cells

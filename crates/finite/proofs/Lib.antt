@@ -10,4 +10,5 @@ pub mod Fillings
 pub mod Calls
 pub mod Whole
 pub mod Exact
+pub mod Accepted
 pub mod Theorems

@@ -14,7 +14,7 @@ use Rattle.plan.specs.Lists.{product}
 use Rattle.plan.specs.Record.{isPlanned}
 use Rattle.plan.specs.declared.Record.{Record}
 use Rattle.schedule.specs.Plans.{inUse}
-use Rattle.schedule.specs.Stage.{kernelTurn, iteration, place, twiddledIn, read, total, plain, output, stageBy, stage}
+use Rattle.schedule.specs.Stage.{twiddleTurn, kernelTurn, iteration, place, twiddledIn, read, total, plain, output, stageBy, stage}
 use Rattle.schedule.proofs.Cells.{getD-tabulate, iteration-lt, read-lt}
 use Rattle.schedule.proofs.Plans.{use-parts, use-radix-some, use-radix-few, use-stride-some}
 use Rattle.turn.specs.Turns.{turnOf, wordsOf}
@@ -90,22 +90,22 @@ module _ (lent : ℕ → ℕ → ℕ → Complex) where
       (total-both r x p k few n (omega arith) (λ q lq. cells q (omega arith)))
       (turned-both 6 2 k (six 4 k (lit≤ tt) few) (turnOf (kernelTurn p (suc n) r)) (x (suc n)) (words-small (kernelTurn p (suc n) r)) (cells (suc n) (omega arith))))
 
-  module _ (j M r k : ℕ) (few : k ≤ 121) (c : ℕ → Complex) (i : ℕ) (cells : (q : ℕ) → q < r → Both 1 k (c (i + q * M))) (ones : (q : ℕ) → 0 < j → 0 < q → q < r → Both 1 0 (lent j i q)) where
-    read-both : (q : ℕ) → q < r → Both 2 k (read (floats lent) j M c i q)
+  module _ (j M s r k : ℕ) (few : k ≤ 121) (c : ℕ → Complex) (i : ℕ) (cells : (q : ℕ) → q < r → Both 1 k (c (i + q * M))) (ones : (q : ℕ) → 0 < j → 0 < q → q < r → Both 1 0 (lent j i q)) where
+    read-both : (q : ℕ) → q < r → Both 2 k (read (floats lent) j M s r c i q)
     unfolding read twiddledIn floats
     read-both zero l = both-wider 1 2 k _ (lit≤ tt) (subst (λ (n : ℕ). Both 1 k (c n)) (omega arith) (cells 0 l))
     read-both (suc q) l = go j ones
       where
-        go : (j : ℕ) → ((q : ℕ) → 0 < j → 0 < q → q < r → Both 1 0 (lent j i q)) → Both 2 k (twiddledIn (floats lent) j i (suc q) (c (i + suc q * M)))
+        go : (j : ℕ) → ((q : ℕ) → 0 < j → 0 < q → q < r → Both 1 0 (lent j i q)) → Both 2 k (twiddledIn (floats lent) j i (suc q) (twiddleTurn s r i (suc q)) (c (i + suc q * M)))
         go zero o = both-wider 1 2 k _ (lit≤ tt) (cells (suc q) l)
         go (suc j) o = times-both 6 1 k (six 2 k (lit≤ tt) few) _ _ (cells (suc q) l) (o (suc q) (omega arith) (omega arith) l)
 
-    pub output-both : (p : ℕ) → 0 < r → r ≤ 8 → Both 1 (k + 5) (output (plain (floats lent)) (floats lent) j M r c i p)
+    pub output-both : (p : ℕ) → 0 < r → r ≤ 8 → Both 1 (k + 5) (output (plain (floats lent)) (floats lent) j M s r c i p)
     unfolding output plain
     output-both p some eight =
         let room : 2 + (r - 1) * 4 ≤ 30 = omega arith in
         both-shifted (2 + (r - 1) * 4) k 5 _ (le-trans room (lit≤ tt))
-        (total-both r (read (floats lent) j M c i) p k few (r - 1) (omega arith) (λ q lq. read-both q (omega arith)))
+        (total-both r (read (floats lent) j M s r c i) p k few (r - 1) (omega arith) (λ q lq. read-both q (omega arith)))
 
 -- the first h cells are
 abbrev pub All : (q k h : ℕ) → List Complex → Type 0
@@ -128,7 +128,7 @@ module _ (p : Record) (planned : isPlanned p ≡ true) (lent : ℕ → ℕ → �
       let blocks = product (drop (suc j) (inUse p)) in
       let at : iteration s r n < p .half / r = iteration-lt s r n (use-stride-some p planned j l) (use-radix-some p planned j l) (p .half) blocks (use-parts p planned j l) ln in
       subst (λ (z : Complex). Both 1 (k + 5) z) (sym (getD-tabulate (p .half) 0 _ n blank ln))
-      (subst (λ (m : ℕ). Both 1 (k + 5) (output (plain (floats lent)) (floats lent) j (p .half / r) r (λ u. getD xs u blank) (iteration s r m) (place s r m))) (sym (zero-add n))
-      (output-both lent j (p .half / r) r k few (λ u. getD xs u blank) (iteration s r n)
+      (subst (λ (m : ℕ). Both 1 (k + 5) (output (plain (floats lent)) (floats lent) j (p .half / r) s r (λ u. getD xs u blank) (iteration s r m) (place s r m))) (sym (zero-add n))
+      (output-both lent j (p .half / r) s r k few (λ u. getD xs u blank) (iteration s r n)
       (λ q lq. before (iteration s r n + q * (p .half / r)) (read-lt (p .half) r (iteration s r n) q at lq)) (λ q lj first last. ones lj (iteration s r n) q at first last) (place s r n)
       (use-radix-some p planned j l) (use-radix-few p planned j l)))

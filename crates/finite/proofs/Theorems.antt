@@ -5,10 +5,12 @@
 use Prim.Native.Nat.{ℕ, _+_, _*_, _≤_, _<_}
 use mathlib.Core.Path.{_≡_, refl, sym, ap, _∙_, subst}
 use mathlib.Core.List.{List}
+use native.Mathlib.Omega.{arith}
 use lib.Dec.{lit≤}
 use lib.IntN.{ℤ, pos, _*ℤ_}
 use lib.Ieee.{Float, nan}
 use lib.ListN.{length, getD}
+use borrow.Author.Tests.{eqb-true}
 use Rattle.refusal.specs.declared.Verdict.{Verdict}
 use Rattle.refusal.specs.declared.Verdict.the-variants.{Accepted}
 use Rattle.refusal.proofs.Rows.{settled}
@@ -25,11 +27,12 @@ use Rattle.spectrum.specs.declared.Summed.{Summed}
 use Rattle.spectrum.proofs.Unique.{Forwards-one, Inverts-one, Powers-one}
 use Rattle.spectrum.proofs.Verdicts.{forwardable, invertible}
 use Rattle.finite.specs.Bits.{Holds, SameBits, SameWritten}
-use Rattle.finite.specs.Sizes.{AtMost, Words, Within}
+use Rattle.finite.specs.Sizes.{AtMost, Words, RightForward, RightInverse, Within}
 use Rattle.finite.specs.Whole.{IsWhole, Short, Small, Samples, IsBins}
+use Rattle.finite.proofs.Accepted.{lent-accepted, whole-most, words-wider}
 use Rattle.finite.proofs.Bits.{same-word, same-bits}
 use Rattle.finite.proofs.Calls.{stage-lent-within, stage-within, summed-within, power-within, samples-within, forward-within, bins-within, inverse-within}
-use Rattle.finite.proofs.Exact.{forward-whole, inverse-whole}
+use Rattle.finite.proofs.Exact.{short-count, forward-whole, inverse-whole}
 use Rattle.finite.proofs.Fillings.{filled-ones}
 
 -- ---- exact, at lengths 2 and 4
@@ -46,6 +49,23 @@ module _ (p : Record) (W : ℕ) (stage end xs : List Float) (before : Slices) (r
   inverse-exact f e short m g j l =
       let t = invertible p W _ _ (length xs) (length (before .0)) (length (before .1)) 48 xs stage end r refl refl (f .answer) e in
       subst (λ (s : Slices). IsWhole (getD (s .0) j nan) (pos (p .n) *ℤ x j)) (sym (settled _ _ _ _ _ f (sym (f .answer) ∙ e))) (inverse-whole p W stage end xs (before .1) x (length (before .0)) t short m g j l)
+
+-- rightly lent, forward accepts whole numbers up to 2 ^ 20, of any length
+pub whole-accepted : (p : Record) (W : ℕ) (stage end xs : List Float) (before : Slices) (r : Verdict) (after : Slices) → Forwards p W stage end xs before r after
+    → RightForward p W stage end (length xs) (length (before .0)) (length (before .1)) → (x : ℕ → ℤ) → Samples (p .n) x xs → r ≡ Accepted
+whole-accepted p W stage end xs before r after f l x g =
+    let long : length xs ≡ p .n = eqb-true (length xs) (p .n) (l .long) in
+    f .answer
+    ∙ lent-accepted p W stage end _ _ (length (before .1)) 32 xs l (λ j lj. let low : j < p .n = subst (λ (n : ℕ). j < n) long lj in whole-most (getD xs j nan) (x j) (g .words j low) (g .small j low))
+
+-- and at lengths 2 and 4 inverse, rightly lent, accepts the spectrum that forward leaves of any samples
+pub back-accepted : (p : Record) (W : ℕ) (stage end xs : List Float) (before : Slices) (r : Verdict) (spectrum : Slices) → Forwards p W stage end xs before r spectrum → r ≡ Accepted
+    → (W′ : ℕ) (stage′ end′ : List Float) (before′ : Slices) (r′ : Verdict) (after : Slices) → Inverts p W′ stage′ end′ (spectrum .0) before′ r′ after
+    → RightInverse p W′ stage′ end′ (length (spectrum .0)) (length (before′ .0)) (length (before′ .1)) → Short (p .n) → r′ ≡ Accepted
+back-accepted p W stage end xs before r spectrum f e W′ stage′ end′ before′ r′ after g l short =
+    g .answer
+    ∙ lent-accepted p W′ stage′ end′ _ _ (length (before′ .1)) 48 (spectrum .0) l
+    (words-wider (32 + 5 * p .count + 3) 48 (spectrum .0) (omega (arith, short-count p (l .planned) short)) (forward-within p W stage end xs before r spectrum f e 32 (lit≤ tt) (samples-within p W stage end xs before r spectrum f e) .0))
 
 -- inverse, given the spectrum that forward left, leaves n times each sample; the two calls may differ in width, twiddles and scratch
 pub there-and-back : (p : Record) (W : ℕ) (stage end xs : List Float) (before : Slices) (r : Verdict) (spectrum : Slices) → Forwards p W stage end xs before r spectrum → r ≡ Accepted

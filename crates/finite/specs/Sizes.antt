@@ -1,10 +1,17 @@
 -- How large floats are: one, a complex one, the words of a row, and what a direction writes. Assumes nothing.
 use Prim.Native.Nat.{ℕ, _*_, _^_, _≤_, _<_}
+use mathlib.Core.Path.{_≡_}
+use mathlib.Core.Bool.{Bool, true, not}
 use mathlib.Core.List.{List}
+use lib.Dec.{eqb, ltb}
 use lib.Ieee.{Float, nan, inf, fin, up, down}
 use lib.ListN.{length, getD}
+use Rattle.plan.specs.Counts.{stageTwiddles, endCount}
+use Rattle.plan.specs.Record.{isPlanned}
 use Rattle.plan.specs.declared.Record.{Record}
+use Rattle.twiddle.specs.Calls.{isWidth}
 use Rattle.floats.specs.declared.complex.Complex.{Complex}
+use Rattle.spectrum.specs.Calls.{binWords}
 use Rattle.spectrum.specs.Transforms.{Slices, dataOf, padOf}
 
 -- finite, and at most q * 2 ^ k in magnitude
@@ -21,6 +28,25 @@ pub record Both (q k : ℕ) (z : Complex) : Type 0 where
 -- every word of a row is finite and at most 2 ^ k
 abbrev pub Words : (k : ℕ) → List Float → Type 0
 Words k xs = (i : ℕ) → i < length xs → AtMost 1 k (getD xs i nan)
+
+-- what a call of a plan is rightly lent beside its numbers: a width, slices of their lengths, and twiddles at most 1
+pub record RightlyLent (p : Record) (W : ℕ) (stage end : List Float) (input output : Bool) (scratch : ℕ) : Type 0 where
+  pub planned : isPlanned p ≡ true
+  pub width : isWidth W ≡ true
+  pub long : input ≡ true
+  pub wide : output ≡ true
+  pub room : 6 * p .n ≤ scratch
+  pub stages : length stage ≡ 2 * stageTwiddles p
+  pub ends : length end ≡ 2 * endCount (p .n)
+  pub ones : Words 0 stage × Words 0 end
+
+-- n samples, all bins out
+abbrev pub RightForward : Record → (W : ℕ) → (stage end : List Float) → (samples output scratch : ℕ) → Type 0
+RightForward p W stage end samples output scratch = RightlyLent p W stage end (eqb samples (p .n)) (eqb output (binWords p)) scratch
+
+-- all bins, n samples or more out
+abbrev pub RightInverse : Record → (W : ℕ) → (stage end : List Float) → (bins output scratch : ℕ) → Type 0
+RightInverse p W stage end bins output scratch = RightlyLent p W stage end (eqb bins (binWords p)) (not (ltb output (p .n))) scratch
 
 -- a bound on the output, and one on Data and, where there are at least so many stages, on the Scratchpad
 abbrev pub Within : (stages : ℕ) → Record → (out scratch : ℕ) → Slices → Type 0

@@ -20,7 +20,7 @@ use Rattle.turn.specs.declared.Turn.{Turn}
 use Rattle.floats.specs.declared.complex.Complex.{Complex}
 use Rattle.floats.specs.Complexes.{blank, plus, times, turnedBy, cell}
 use Rattle.kernel.specs.Floats.{floats}
-use Rattle.kernel.specs.Parts.{numberOf, lentBy, untwiddled, kernelOf, readOf, outputOf}
+use Rattle.kernel.specs.Parts.{lentBy, untwiddled, kernelOf, readOf, outputOf}
 
 -- iteration i's cell q is there
 pub cell-room : (i q M r n : ℕ) → i < M → q < r → 2 * (M * r) ≤ n → 2 * (i + q * M) + 1 < n
@@ -64,37 +64,36 @@ total-same lent lent′ r x y p (suc n) e =
 
 module _ (first : Bool) (M : ℕ) (src : List Float) (lent : ℕ → ℕ → Complex) (i : ℕ) where
   pub read-plain : (q : ℕ) (x : Complex) → 0 < q → first ≡ true → x ≡ cell src (i + q * M) → x ≡ readOf first M src lent i q
-  unfolding read twiddledIn
+  unfolding readOf
   read-plain zero x l e ex = absurd (omega arith)
   read-plain (suc q) x l e ex = rw e ex
 
   pub read-times : (q : ℕ) (x t y : Complex) → 0 < q → first ≡ false → x ≡ cell src (i + q * M) → t ≡ lent i q → y ≡ times x t → y ≡ readOf first M src lent i q
-  unfolding read twiddledIn floats
+  unfolding readOf
   read-times zero x t y l e ex et ey = absurd (omega arith)
   read-times (suc q) x t y l e ex et ey = rw e (ey ∙ ap₂ times ex et)
 
   -- the outputs of the cells read
   pub outputs-of : (r : ℕ) (c o : List Complex) → 0 < r → r ≤ 8 → ((q : ℕ) → q < r → getD c q blank ≡ readOf first M src lent i q)
       → o ≡ tabulate 8 0 (kernelOf r (λ q. getD c q blank)) → (p : ℕ) → p < r → getD o p blank ≡ outputOf first M r src lent i p
-  unfolding output plain
+  unfolding plain
   outputs-of r c o some few reads outs p l =
       ap (λ (os : List Complex). getD os p blank) outs ∙ getD-tabulate 8 0 _ p blank (omega arith)
       ∙ rw zero-add (total-same _ _ r _ _ p (r - 1) (λ q lq. reads q (omega arith)))
 
 -- all later stages do alike, and an output rests on the cells that are there
-module _ (lent : ℕ → ℕ → Complex) (j h r : ℕ) (c d : ℕ → Complex) (e : (n : ℕ) → n < h → c n ≡ d n) (i : ℕ) (li : i < h / r) where
-  read-same : (q : ℕ) → q < r → read (lentBy lent) (numberOf (eqb j 0)) (h / r) c i q ≡ read (lentBy lent) j (h / r) d i q
-  unfolding read twiddledIn floats
+module _ (lent : ℕ → ℕ → Complex) (j h s r : ℕ) (src : List Float) (d : ℕ → Complex) (e : (n : ℕ) → n < h → cell src n ≡ d n) (i : ℕ) (li : i < h / r) where
+  read-same : (q : ℕ) → q < r → readOf (eqb j 0) (h / r) src lent i q ≡ read (lentBy lent) j (h / r) s r d i q
+  unfolding readOf read twiddledIn floats
   read-same = go j
     where
-      go : (j q : ℕ) → q < r → read (lentBy lent) (numberOf (eqb j 0)) (h / r) c i q ≡ read (lentBy lent) j (h / r) d i q
+      go : (j q : ℕ) → q < r → readOf (eqb j 0) (h / r) src lent i q ≡ read (lentBy lent) j (h / r) s r d i q
       go j zero lq = e i (omega (arith, read-lt h r i 0 li lq))
       go zero (suc q) lq = e (i + suc q * (h / r)) (read-lt h r i (suc q) li lq)
       go (suc j) (suc q) lq =
           let later : suc j ≡ 0 → ⊥ = λ z. omega arith in
           rw (ne-eqb (suc j) 0 later) (ap (λ (x : Complex). times x (lent i (suc q))) (e (i + suc q * (h / r)) (read-lt h r i (suc q) li lq)))
 
-  pub output-same : (p : ℕ) → 0 < r → output (plain (lentBy lent)) (lentBy lent) (numberOf (eqb j 0)) (h / r) r c i p
-      ≡ output (plain (lentBy lent)) (lentBy lent) j (h / r) r d i p
+  pub output-same : (p : ℕ) → 0 < r → outputOf (eqb j 0) (h / r) r src lent i p ≡ output (plain (lentBy lent)) (lentBy lent) j (h / r) s r d i p
   unfolding output plain
   output-same p some = total-same _ _ r _ _ p (r - 1) (λ q l. read-same q (omega arith))

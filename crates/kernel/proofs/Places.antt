@@ -117,4 +117,4 @@ staged h n s r j parts ps pr lent src dst ls ld done =
     (stage-by-outputs (plain (lentBy lent)) (lentBy lent) j h n s r parts ps pr (paired src) (paired dst) (length-paired h dst ld) (λ i p li lp.
     get-paired dst (index s r i p) (omega (arith, index-lt s r i p ps lp h n parts li))
     ∙ done i p li lp
-    ∙ output-same lent j h r (cell src) _ (λ k lk. sym (get-paired src k (omega arith))) i li p pr))
+    ∙ output-same lent j h s r src _ (λ k lk. sym (get-paired src k (omega arith))) i li p pr))

@@ -5,11 +5,11 @@ use lib.Ieee.{Float}
 use Rattle.plan.specs.Counts.{radix}
 use Rattle.plan.specs.declared.Record.{Record}
 use Rattle.schedule.specs.Plans.{inUse}
-use Rattle.schedule.specs.Stage.{Arith, stage}
-use Rattle.turn.specs.Turns.{turnOf}
+use Rattle.schedule.specs.Stage.{Part, Arith, stage}
+use Rattle.turn.specs.Turns.{turnOf, wordsOf}
 use Rattle.twiddle.specs.Places.{place}
 use Rattle.floats.specs.declared.complex.Complex.{Complex}
-use Rattle.floats.specs.Complexes.{blank, plus, times, turnedBy, cell, paired, flat}
+use Rattle.floats.specs.Complexes.{cx, blank, plus, times, turnedBy, cell, paired, flat}
 
 -- with `lent j i q` for twiddle q of iteration i of stage j: a cell is turned by the house table's turn, and twiddled by a multiplication in full
 unfoldable pub floats : (lent : ℕ → ℕ → ℕ → Complex) → Arith Complex
@@ -18,7 +18,21 @@ floats lent =
       blank = blank;
       plus = plus;
       turned = λ a x. turnedBy (turnOf a) x;
-      twiddled = λ j i q x. times x (lent j i q);
+      twiddled = λ j i q a x. times x (lent j i q);
+    }
+
+-- the words of the house table's turn
+abbrev pub wordOf : Part → Complex
+wordOf a = cx (wordsOf (turnOf a) .0) (wordsOf (turnOf a) .1)
+
+-- with the house table's turns throughout: each twiddle is the word of its own turn
+unfoldable pub houseFloats : Arith Complex
+houseFloats =
+    record {
+      blank = blank;
+      plus = plus;
+      turned = λ a x. turnedBy (turnOf a) x;
+      twiddled = λ j i q a x. times x (wordOf a);
     }
 
 -- twiddle q of iteration i, in the words lent to a stage of M iterations of radix r and packed for width W

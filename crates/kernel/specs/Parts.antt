@@ -2,24 +2,19 @@
 use mathlib.Core.Path.{_≡_}
 use mathlib.Core.Bool.{Bool, true, false}
 use mathlib.Core.List.{List}
-use Prim.Native.Nat.{ℕ, _+_, _-_, _*_, _/_, _%_, _<_, _≤_}
+use Prim.Native.Nat.{ℕ, zero, suc, _+_, _-_, _*_, _/_, _%_, _<_, _≤_}
 use lib.ListN.{length, getD}
 use lib.Ieee.{Float, nan}
 use Rattle.plan.specs.Counts.{twiddleCount}
 use Rattle.plan.specs.Lists.{isRadix}
 use Rattle.plan.specs.Record.{isPlanned}
 use Rattle.plan.specs.declared.Record.{Record}
-use Rattle.schedule.specs.Stage.{Arith, index, read, plain, output}
+use Rattle.schedule.specs.Stage.{Arith, index, plain}
 use Rattle.floats.specs.declared.complex.Complex.{Complex}
-use Rattle.floats.specs.Complexes.{cx, blank, cell}
+use Rattle.floats.specs.Complexes.{cx, blank, times, cell}
 use Rattle.kernel.specs.Floats.{floats}
 
 -- ---- kernels
-
--- the first stage is stage 0; all later ones do alike, so stage 1 stands for them
-abbrev pub numberOf : (first : Bool) → ℕ
-numberOf true = 0
-numberOf false = 1
 
 -- the arithmetic of one stage, with `lent i q` for twiddle q of iteration i
 abbrev pub lentBy : (ℕ → ℕ → Complex) → Arith Complex
@@ -33,13 +28,19 @@ untwiddled = lentBy (λ i q. blank)
 abbrev pub kernelOf : (r : ℕ) → (ℕ → Complex) → ℕ → Complex
 kernelOf r x p = plain untwiddled r x p
 
+-- a cell and its twiddle: the first stage has none
+abbrev pub twiddledBy : (first : Bool) → (x t : Complex) → Complex
+twiddledBy true x t = x
+twiddledBy false x t = times x t
+
 -- what iteration i of M reads as its cell q
-abbrev pub readOf : (first : Bool) → (M : ℕ) → (src : List Float) → (lent : ℕ → ℕ → Complex) → (i q : ℕ) → Complex
-readOf first M src lent = read (lentBy lent) (numberOf first) M (cell src)
+unfoldable pub readOf : (first : Bool) → (M : ℕ) → (src : List Float) → (lent : ℕ → ℕ → Complex) → (i q : ℕ) → Complex
+readOf first M src lent i zero = cell src i
+readOf first M src lent i (suc q) = twiddledBy first (cell src (i + suc q * M)) (lent i (suc q))
 
 -- output p of iteration i of M
 abbrev pub outputOf : (first : Bool) → (M r : ℕ) → (src : List Float) → (lent : ℕ → ℕ → Complex) → (i p : ℕ) → Complex
-outputOf first M r src lent = output (plain (lentBy lent)) (lentBy lent) (numberOf first) M r (cell src)
+outputOf first M r src lent i p = kernelOf r (readOf first M src lent i) p
 
 -- M iterations of radix r read a list of so many words
 pub record Sized (M r ns : ℕ) : Type 0 where

@@ -10,7 +10,7 @@ use Rattle.plan.specs.declared.Record.{Record}
 use Rattle.schedule.specs.Buffers.{Two}
 use Rattle.twiddle.specs.Calls.{Slices}
 use Rattle.ladlespindle.specs.declared.Answer.{Answer}
-use Rattle.ladlespindle.specs.declared.Power.{Power}
+use Rattle.ladlespindle.specs.declared.Summed.{Summed}
 use Rattle.ladlespindle.specs.declared.Ran.{Ran}
 use Rattle.ladlespindle.specs.declared.Scaling.{Scaling}
 use Rattle.ladlespindle.specs.declared.TurnWords.{TurnWords}
@@ -74,7 +74,7 @@ GivesAcceptance-one plan {r} {s} a b = same-bit r s (a .bit) (b .bit) (λ (e : r
 pub GivesTurn-one : (t L : ℕ) {r s : TurnWords} → GivesTurn t L r → GivesTurn t L s → r ≡ s
 GivesTurn-one t L a b = agree (a .answer) (b .answer)
 
-pub GivesPower-one : (spectrum : List Float) (lo hi : ℕ) {r s : Power} → GivesPower spectrum lo hi r → GivesPower spectrum lo hi s → r ≡ s
+pub GivesPower-one : (spectrum : List Float) (lo hi : ℕ) {r s : Summed} → GivesPower spectrum lo hi r → GivesPower spectrum lo hi s → r ≡ s
 GivesPower-one spectrum lo hi a b = agree (a .answer) (b .answer)
 
 -- ---- calls that write

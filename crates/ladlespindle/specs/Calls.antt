@@ -18,10 +18,10 @@ use Rattle.stage.specs.Calls as Floats
 use Rattle.spectrum.specs.Calls.{forwardVerdict, inverseVerdict}
 use Rattle.spectrum.specs.Power.{powerFrom, powerVerdict, summed}
 use Rattle.spectrum.specs.Transforms.{forwardOf, inverseOf, Slices as Buffers}
-use Rattle.spectrum.specs.declared.Summed.{Summed}
+use Rattle.spectrum.specs.declared.Summed.{Summed as Sum}
 use Rattle.remainder.specs.Calls.{stageVerdict, stageOf, runVerdict, runOf}
 use Rattle.ladlespindle.specs.declared.Answer.{Answer}
-use Rattle.ladlespindle.specs.declared.Power.{Power}
+use Rattle.ladlespindle.specs.declared.Summed.{Summed}
 use Rattle.ladlespindle.specs.declared.Ran.{Ran}
 use Rattle.ladlespindle.specs.declared.TurnWords.{TurnWords}
 
@@ -30,10 +30,10 @@ abbrev pub answered : Verdict → Answer
 answered v = record { number = numberIn v; place = placeIn v }
 
 -- a sum with its verdict as two numbers
-abbrev pub powerAs : (number place : ℕ) → Float → Power
+abbrev pub powerAs : (number place : ℕ) → Float → Summed
 powerAs n k x = record { number = n; place = k; power = x }
 
-abbrev pub powered : Summed → Power
+abbrev pub powered : Sum → Summed
 powered s = powerAs (numberIn (s .verdict)) (placeIn (s .verdict)) (s .power)
 
 -- what a call with verdict v promises of its answer r, and of what stands afterwards in what was lent
@@ -77,7 +77,7 @@ GivesSamples p W stage end input before r after =
     Gives (inverseVerdict p W input (length (before .0)) (length (before .1)) stage end) (inverseOf p W stage end input (before .1) (length (before .0))) before r after
 
 -- what `ladlespindle_power` promises of its answer: the refusal as two numbers, and the sum
-pub record GivesPower (spectrum : List Float) (lo hi : ℕ) (r : Power) : Type 0 where
+pub record GivesPower (spectrum : List Float) (lo hi : ℕ) (r : Summed) : Type 0 where
   pub answer : r ≡ powered (summed (powerVerdict spectrum lo hi) (powerFrom spectrum lo (hi + 1 - lo)))
 
 -- ---- remainders

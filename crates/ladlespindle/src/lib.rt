@@ -43,7 +43,7 @@ pub struct TurnWords {
 
 // The same of a sum of power, with the sum, +0 on a refusal.
 #[repr(C)]
-pub struct Power {
+pub struct Summed {
     pub number: u32,
     pub place: usize,
     pub power: f32,
@@ -220,12 +220,12 @@ pub extern "C" fn ladlespindle_turn(t: u32, l: u32) -> TurnWords
 pub extern "C" fn ladlespindle_fill_forward(
     plan: Record,
     width: usize,
-    stage: &mut [f32],
-    end: &mut [f32],
+    stage_twiddles: &mut [f32],
+    end_twiddles: &mut [f32],
 ) -> Answer
-    ensures { λ r. ⌜ GivesForward plan width (now (stage .entry), now (end .entry)) r (now (stage .exit), now (end .exit)) ⌝ }
+    ensures { λ r. ⌜ GivesForward plan width (now («stage_twiddles» .entry), now («end_twiddles» .entry)) r (now («stage_twiddles» .exit), now («end_twiddles» .exit)) ⌝ }
 {
-    let verdict = twiddle::fill_forward(plan, width, stage, end);
+    let verdict = twiddle::fill_forward(plan, width, stage_twiddles, end_twiddles);
     Answer {
         number: verdict.number(),
         place: verdict.place(),
@@ -237,12 +237,12 @@ pub extern "C" fn ladlespindle_fill_forward(
 pub extern "C" fn ladlespindle_fill_inverse(
     plan: Record,
     width: usize,
-    stage: &mut [f32],
-    end: &mut [f32],
+    stage_twiddles: &mut [f32],
+    end_twiddles: &mut [f32],
 ) -> Answer
-    ensures { λ r. ⌜ GivesInverse plan width (now (stage .entry), now (end .entry)) r (now (stage .exit), now (end .exit)) ⌝ }
+    ensures { λ r. ⌜ GivesInverse plan width (now («stage_twiddles» .entry), now («end_twiddles» .entry)) r (now («stage_twiddles» .exit), now («end_twiddles» .exit)) ⌝ }
 {
-    let verdict = twiddle::fill_inverse(plan, width, stage, end);
+    let verdict = twiddle::fill_inverse(plan, width, stage_twiddles, end_twiddles);
     Answer {
         number: verdict.number(),
         place: verdict.place(),
@@ -276,12 +276,20 @@ pub extern "C" fn ladlespindle_forward(
     input: &[f32],
     output: &mut [f32],
     scratch: &mut [f32],
-    stage: &[f32],
-    end: &[f32],
+    stage_twiddles: &[f32],
+    end_twiddles: &[f32],
 ) -> Answer
-    ensures { λ r. ⌜ GivesSpectrum plan width (now (stage .entry)) (now (end .entry)) (now (input .entry)) (now (output .entry), now (scratch .entry)) r (now (output .exit), now (scratch .exit)) ⌝ }
+    ensures { λ r. ⌜ GivesSpectrum plan width (now («stage_twiddles» .entry)) (now («end_twiddles» .entry)) (now (input .entry)) (now (output .entry), now (scratch .entry)) r (now (output .exit), now (scratch .exit)) ⌝ }
 {
-    let verdict = spectrum::forward(plan, width, input, output, scratch, stage, end);
+    let verdict = spectrum::forward(
+        plan,
+        width,
+        input,
+        output,
+        scratch,
+        stage_twiddles,
+        end_twiddles,
+    );
     Answer {
         number: verdict.number(),
         place: verdict.place(),
@@ -296,12 +304,20 @@ pub extern "C" fn ladlespindle_inverse(
     input: &[f32],
     output: &mut [f32],
     scratch: &mut [f32],
-    stage: &[f32],
-    end: &[f32],
+    stage_twiddles: &[f32],
+    end_twiddles: &[f32],
 ) -> Answer
-    ensures { λ r. ⌜ GivesSamples plan width (now (stage .entry)) (now (end .entry)) (now (input .entry)) (now (output .entry), now (scratch .entry)) r (now (output .exit), now (scratch .exit)) ⌝ }
+    ensures { λ r. ⌜ GivesSamples plan width (now («stage_twiddles» .entry)) (now («end_twiddles» .entry)) (now (input .entry)) (now (output .entry), now (scratch .entry)) r (now (output .exit), now (scratch .exit)) ⌝ }
 {
-    let verdict = spectrum::inverse(plan, width, input, output, scratch, stage, end);
+    let verdict = spectrum::inverse(
+        plan,
+        width,
+        input,
+        output,
+        scratch,
+        stage_twiddles,
+        end_twiddles,
+    );
     Answer {
         number: verdict.number(),
         place: verdict.place(),
@@ -310,12 +326,12 @@ pub extern "C" fn ladlespindle_inverse(
 
 // The power of bins lo to hi of a spectrum.
 #[no_mangle]
-pub extern "C" fn ladlespindle_power(spectrum: &[f32], lo: usize, hi: usize) -> Power
+pub extern "C" fn ladlespindle_power(spectrum: &[f32], lo: usize, hi: usize) -> Summed
     ensures { λ r. ⌜ GivesPower (now (spectrum .entry)) lo hi r ⌝ }
 {
     let summed = spectrum::power(spectrum, lo, hi);
     let verdict = summed.verdict;
-    Power {
+    Summed {
         number: verdict.number(),
         place: verdict.place(),
         power: summed.power,

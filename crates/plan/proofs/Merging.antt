@@ -4,7 +4,7 @@ use native.Mathlib.Omega.{arith}
 use native.Mathlib.Numerals.{add-one}
 use mathlib.Core.Path.{_≡_, refl, sym, ap, _∙_}
 use mathlib.Core.Logic.{_⊎_, inl, inr, ⊎-elim}
-use mathlib.Core.Bool.{Bool, true, false, cond, _&&_}
+use mathlib.Core.Bool.{Bool, true, false, cond, _&&_, true≢false}
 use mathlib.Core.List.{List, [], _∷_, _++_, map, append-assoc, append-nil}
 use lib.Dec.{leb}
 use lib.ListN.{length, take, set, replicate, length-append, length-replicate, length-set}
@@ -28,6 +28,10 @@ tally-is xs a b c d e f p q r s t u = rw (p, q, r, s, t, u)
 pub and-false : (b : Bool) → (b && false) ≡ false
 and-false true = refl
 and-false false = refl
+
+both-true : (a b : Bool) → (a && b) ≡ true → (a ≡ true) × (b ≡ true)
+both-true true b e = (refl, e)
+both-true false b e = absurd (true≢false (sym e))
 
 pub a-needs : (t : Tally) → (t .fours < 1) ⊎ (t .twos < 1) → applies A t ≡ false
 unfolding applies
@@ -126,6 +130,15 @@ merge-keeps B t h = record { exponents = omega arith; threes = refl; fives = ref
 merge-keeps C t h = record { exponents = omega arith; threes = refl; fives = refl; sevens = refl; fewer = omega arith }
 merge-keeps D t h = record { exponents = omega arith; threes = refl; fives = refl; sevens = refl; fewer = omega arith }
 merge-keeps None t h = keeps-all t
+
+-- whichever rule it is, if it applies
+pub applied-keeps : (r : Rule) (t : Tally) → applies r t ≡ true → Keeps t (merge r t)
+unfolding applies Tells merge
+applied-keeps A t e = let b = both-true (leb 1 (t .fours)) (leb 1 (t .twos)) e in merge-keeps A t (leb-true 1 (t .fours) (b .0), leb-true 1 (t .twos) (b .1))
+applied-keeps B t e = merge-keeps B t (leb-true 3 (t .twos) e)
+applied-keeps C t e = merge-keeps C t (leb-true 2 (t .fours) e)
+applied-keeps D t e = merge-keeps D t (leb-true 2 (t .twos) e)
+applied-keeps None t e = keeps-all t
 
 pub merge-falls : (r : Rule) (t : Tally) → Tells r t → Merges r → (low (merge r t) < low t) × (2 ≤ low t)
 unfolding Tells merge

@@ -101,7 +101,7 @@ good-halved xs g = half-halves xs (g .radices) (g .even)
 abbrev pub stages : List ℕ → Tally
 stages xs = merged (tally (half xs))
 
-weight-keeps : {t u : Tally} → Keeps t u → weight u ≡ weight t
+pub weight-keeps : {t u : Tally} → Keeps t u → weight u ≡ weight t
 unfolding weight
 weight-keeps k = rw (k .exponents, k .threes, k .fives, k .sevens)
 

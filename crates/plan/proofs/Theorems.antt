@@ -7,26 +7,22 @@ use mathlib.Core.Logic.{_⊎_}
 use mathlib.Core.Bool.{Bool, true, false, cond}
 use mathlib.Core.List.{List}
 use lib.Dec.{eqb}
-use lib.ListN.{length}
 use Rattle.refusal.specs.declared.Verdict.the-variants.{Accepted, Refused}
 use Rattle.refusal.specs.declared.Refusal.the-variants.{NotPlanned}
 use Rattle.plan.specs.declared.Record.{Record}
 use Rattle.plan.specs.Counts.{recordVerdict}
 use Rattle.plan.specs.Lists.{product, countOf}
 use Rattle.plan.specs.Half.{half}
-use Rattle.plan.specs.Merging.{tally, rules}
+use Rattle.plan.specs.Merging.{tally, applies, merge, sorted}
 use Rattle.plan.specs.Scaling.{gain}
 use Rattle.plan.specs.declared.inner.merging.Tally.{Tally}
+use Rattle.plan.specs.declared.inner.merging.Rule.{Rule}
 use Rattle.plan.proofs.Scaling.{gain-reaches, gain-least}
-use Rattle.plan.specs.Record.{planVerdict, factors, recordOf, Plannable, isPlanned}
-use Rattle.plan.proofs.Merging.{exponent, merged-leaves, merged-closed, merges-few}
-use Rattle.plan.proofs.Products.{tally-sorted, product-tally, exponent-is}
-use Rattle.plan.proofs.Records.{accepted-good, good-halved, merged-product, stages, record-by-n, passes-plannable, plannable-passes}
+use Rattle.plan.specs.Record.{planVerdict, factors, mergesOf, recordOf, Plannable, isPlanned}
+use Rattle.plan.proofs.Merging.{exponent, applied-keeps, merged-leaves, merged-closed, merges-few}
+use Rattle.plan.proofs.Products.{tally-sorted, product-sorted, product-tally, exponent-is}
+use Rattle.plan.proofs.Records.{accepted-good, good-halved, merged-product, weight-keeps, stages, record-by-n, passes-plannable, plannable-passes}
 use Rattle.plan.proofs.Planning.{record-refused, record-accepted}
-
--- the merges of a list
-abbrev pub mergesOf : List ℕ → ℕ
-mergesOf xs = length (rules (tally (half xs)))
 
 -- at most one of a and b, and a + 2b known
 low-is : (a b n : ℕ) → a + b ≤ 1 → a + 2 * b ≡ n → (a ≡ cond (eqb n 1) 1 0) × (b ≡ cond (eqb n 2) 1 0)
@@ -36,6 +32,13 @@ low-is zero (suc zero) n h e = rw (← e) (refl, refl)
 low-is (suc a) (suc b) n h e = absurd (omega arith)
 low-is zero (suc (suc b)) n h e = absurd (omega arith)
 low-is (suc (suc a)) zero n h e = absurd (omega arith)
+
+-- each single merge, by any rule that applies, keeps the product and the counts of 3, 5 and 7
+pub each-merge-keeps : (r : Rule) (t : Tally) → applies r t ≡ true
+    → (product (sorted (merge r t)) ≡ product (sorted t)) × ((merge r t .threes ≡ t .threes) × ((merge r t .fives ≡ t .fives) × (merge r t .sevens ≡ t .sevens)))
+each-merge-keeps r t e =
+    let k = applied-keeps r t e in
+    (product-sorted (merge r t) ∙ weight-keeps k ∙ sym (product-sorted t), (k .threes, (k .fives, k .sevens)))
 
 module _ (xs : List ℕ) (accepted : planVerdict xs ≡ Accepted) where
   -- the half list has half the product

@@ -16,7 +16,7 @@ use Rattle.plan.specs.declared.Merges.{Merges}
 use Rattle.plan.specs.declared.Planned.{Planned}
 use Rattle.plan.specs.Lists.{product, firstBad, firstOver, largest, padded, eqList}
 use Rattle.plan.specs.Half.{half}
-use Rattle.plan.specs.Merging.{tally, total, merged, letters, marked, sorted}
+use Rattle.plan.specs.Merging.{tally, total, rules, merged, letters, marked, sorted}
 
 -- refusals 1, 2, 3 and 4, in this order
 unfoldable pub planVerdict : List ℕ → Verdict
@@ -31,6 +31,10 @@ planVerdict xs =
 -- the radices of the stages: the half list merged, in ascending order
 unfoldable pub factors : List ℕ → List ℕ
 factors xs = sorted (merged (tally (half xs)))
+
+-- how many merges there are
+abbrev pub mergesOf : List ℕ → ℕ
+mergesOf xs = length (rules (tally (half xs)))
 
 unfoldable pub recordOf : List ℕ → Record
 recordOf xs =

@@ -15,8 +15,7 @@ use Rattle.schedule.proofs.Cells.{pos-right, length-stage}
 use Rattle.schedule.proofs.Plans.{use-length, use-product}
 use Rattle.schedule.proofs.Strides.{stride-drop}
 use Rattle.remainder.specs.Calls.{Lent}
-use Rattle.remainder.specs.Residues.{residues, cells, blockSum, Blocks}
-use Rattle.remainder.specs.Rows.{Under}
+use Rattle.remainder.specs.Residues.{residues, cells, blockSum, Blocks, Under}
 use Rattle.remainder.proofs.Blocks.{run-blocks}
 use Rattle.remainder.proofs.Columns.{all-under}
 
@@ -30,7 +29,7 @@ blocks-under m w h S n x c pm ps e blocks k l =
 module _ (p : Record) (m w : ℕ) (xs : List ℕ) (h : Lent p m w xs) where
   -- the schedule after j stages
   abbrev pub after : ℕ → List ℕ
-  after j = run (residues m w (p .half) (inUse p)) (p .half) (inUse p) j xs
+  after j = run (residues m w (p .half)) (p .half) (inUse p) j xs
 
   pub circle : w ^ p .half % m ≡ 1 % m
   circle = h .circle ∙ sym (mod-eq-of-lt (h .modulus))
@@ -48,7 +47,7 @@ module _ (p : Record) (m w : ℕ) (xs : List ℕ) (h : Lent p m w xs) where
   unfolding run stage
   after-length zero = h .long
   after-length (suc j) =
-      let a = residues m w (p .half) (inUse p) in
+      let a = residues m w (p .half) in
       length-stage (plain a) a j (p .half) (stride (inUse p) j) (radix (inUse p) j) (after j)
 
   pub after-under : (j : ℕ) → j ≤ p .count → Under m (length (after j)) (after j)

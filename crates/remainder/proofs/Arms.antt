@@ -8,7 +8,8 @@ use mathlib.Core.Logic.{inl, inr}
 use lib.ListN.{length}
 use Rattle.plan.specs.Lists.{isRadix}
 use Rattle.plan.proofs.Products.{Radix, radix-is, radix-least}
-use Rattle.remainder.specs.Rows.{rowOf, twiddledRow, storeFrom, stored, Modulus, Under, Storable, Ready}
+use Rattle.remainder.specs.Residues.{Under}
+use Rattle.remainder.specs.Rows.{rowOf, twiddledRow, storeFrom, stored, Modulus, Storable, Ready}
 use Rattle.remainder.proofs.Rows.{row-under, twiddled-under, store-on, store-all}
 
 -- below 4 and not 2

@@ -15,8 +15,8 @@ use Rattle.schedule.proofs.Cells.{by-radix, by-both}
 use Rattle.schedule.proofs.Fill.{columns-stage}
 use Rattle.schedule.proofs.Plans.{use-stride, use-radix, use-parts, use-count, use-blocks, use-stride-some, use-radix-some, use-radix-few}
 use Rattle.remainder.specs.Calls.{Workable, stageOf}
-use Rattle.remainder.specs.Residues.{residues, cells}
-use Rattle.remainder.specs.Rows.{Under, Shape, stepped, value}
+use Rattle.remainder.specs.Residues.{residues, cells, Under}
+use Rattle.remainder.specs.Rows.{Shape, stepped, value}
 use Rattle.remainder.proofs.Blocks.{first-stride}
 use Rattle.remainder.proofs.Iteration.{pow-reduced, pow-times, value-output}
 
@@ -34,12 +34,12 @@ module _ (m w h n : ℕ) (rs : List ℕ) (j : ℕ) (parts : h ≡ n * (stride rs
     (first : j ≡ 0 → stride rs j ≡ 1) (positive : 0 < m) (step root : ℕ) (src turns : List ℕ) (stepping : step ≡ w ^ n % m) (rooted : root ≡ w ^ (h / radix rs j) % m)
     (turned : (t : ℕ) → t < 8 → getD turns t 0 ≡ root ^ t % m) (under : Under m (length src) src) where
   -- every output is the schedule's
-  stepped-output : stepped m (radix rs j) (stride rs j) (h / radix rs j) step src turns ≡ output (plain (residues m w h rs)) (residues m w h rs) j (h / radix rs j) (radix rs j) (cells src)
+  stepped-output : stepped m (radix rs j) (stride rs j) (h / radix rs j) step src turns ≡ output (plain (residues m w h)) (residues m w h) j (h / radix rs j) (stride rs j) (radix rs j) (cells src)
   unfolding stepped
   stepped-output = λ k i p. each i p k
     where
       each : (i p : ℕ) → value m (radix rs j) (h / radix rs j) (step ^ (i % stride rs j) % m) src turns i p
-          ≡ output (plain (residues m w h rs)) (residues m w h rs) j (h / radix rs j) (radix rs j) (cells src) i p
+          ≡ output (plain (residues m w h)) (residues m w h) j (h / radix rs j) (stride rs j) (radix rs j) (cells src) i p
       each i p =
           value-output m w h rs j src turns (step ^ (i % stride rs j) % m) i some few first
           (power-power m w n step (i % stride rs j) stepping
@@ -49,12 +49,12 @@ module _ (m w h n : ℕ) (rs : List ℕ) (j : ℕ) (parts : h ≡ n * (stride rs
   -- so the columns are the stage
   pub columns-are-stage : (dst out : List ℕ) → length dst ≡ h
       → out ≡ putColumns (stride rs j) (radix rs j) n (stepped m (radix rs j) (stride rs j) (h / radix rs j) step src turns) dst (stride rs j)
-      → out ≡ stage (residues m w h rs) h rs j src
+      → out ≡ stage (residues m w h) h rs j src
   unfolding stage residues
   columns-are-stage dst out e d =
       d
       ∙ ap (λ (f : ℕ → ℕ → ℕ). putColumns (stride rs j) (radix rs j) n f dst (stride rs j)) stepped-output
-      ∙ columns-stage (plain (residues m w h rs)) (residues m w h rs) j h n (stride rs j) (radix rs j) parts columns some src dst e
+      ∙ columns-stage (plain (residues m w h)) (residues m w h) j h n (stride rs j) (radix rs j) parts columns some src dst e
 
 -- The numbers that the code finds for stage j of an accepted plan
 module _ (p : Record) (j m w : ℕ) (src : List ℕ) (room : ℕ) (h : Workable p j m w src room) (s r : ℕ) (es : s ≡ stride (p .radices) j) (er : r ≡ getD (p .radices) j 0) where

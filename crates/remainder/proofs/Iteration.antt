@@ -105,7 +105,7 @@ module _ (m w h : ℕ) (rs : List ℕ) (j : ℕ) (src turns : List ℕ) (v i : �
   x = twiddledRow m v (radix rs j) (rowOf src i (h / radix rs j) (radix rs j))
 
   abbrev reads : ℕ → ℕ
-  reads = read (residues m w h rs) j (h / radix rs j) (cells src) i
+  reads = read (residues m w h) j (h / radix rs j) (stride rs j) (radix rs j) (cells src) i
 
   row-cell : (q : ℕ) → q < radix rs j → getD x q 0 ≡ reads q
   unfolding turn twiddleTurn
@@ -117,27 +117,27 @@ module _ (m w h : ℕ) (rs : List ℕ) (j : ℕ) (src turns : List ℕ) (v i : �
       ∙ ap (λ (n : ℕ). n * v ^ q % m) (eight-at (λ (n : ℕ). below r n (getD src (i + n * (h / r)) 0)) q (omega arith) ∙ below-in r q cell l)
       ∙ power-product m w (i % s * (h / (s * r))) q cell v power
       ∙ ap (λ (n : ℕ). cell * w ^ n % m) {x = i % s * (h / (s * r)) * q} {y = i % s * q * (h / (s * r))} (omega arith)
-      ∙ sym (read-turned m w h rs j (h / radix rs j) (cells src) i q (sym (mod-eq-of-lt (small q l))) first)
+      ∙ sym (read-turned m w h j (h / radix rs j) (stride rs j) (radix rs j) (cells src) i q (sym (mod-eq-of-lt (small q l))) first)
 
-  row-total : (p n : ℕ) → n < radix rs j → sumTo m (radix rs j) p x turns n ≡ total (residues m w h rs) (radix rs j) reads p n
+  row-total : (p n : ℕ) → n < radix rs j → sumTo m (radix rs j) p x turns n ≡ total (residues m w h) (radix rs j) reads p n
   unfolding sumTo total residues turn kernelTurn
   row-total p zero l = row-cell 0 l
   row-total p (suc n) l = simp (lt-ltb (suc n) (radix rs j) l) (step (row-total p n (omega arith)))
     where
-      step : sumTo m (radix rs j) p x turns n ≡ total (residues m w h rs) (radix rs j) reads p n
+      step : sumTo m (radix rs j) p x turns n ≡ total (residues m w h) (radix rs j) reads p n
           → (sumTo m (radix rs j) p x turns n + getD x (suc n) 0 * getD turns (p * suc n % radix rs j) 0) % m
-          ≡ residues m w h rs .plus (total (residues m w h rs) (radix rs j) reads p n) (residues m w h rs .turned (kernelTurn p (suc n) (radix rs j)) (reads (suc n)))
+          ≡ residues m w h .plus (total (residues m w h) (radix rs j) reads p n) (residues m w h .turned (kernelTurn p (suc n) (radix rs j)) (reads (suc n)))
       step e =
           let r = radix rs j in
           let t = p * suc n % r in
-          let before = total (residues m w h rs) r reads p n in
+          let before = total (residues m w h) r reads p n in
           ap₂ (λ (y z : ℕ). (y + z * getD turns t 0) % m) e (row-cell (suc n) l)
           ∙ ap (λ (y : ℕ). (before + reads (suc n) * y) % m) (turned t (turn-lt p (suc n) r l few))
           ∙ term-reduced m before (reads (suc n)) (w ^ (h / r * t))
           ∙ ap (λ (y : ℕ). (before + reads (suc n) * w ^ y % m) % m) (mul-comm (h / r) t)
 
   -- output p is the schedule's
-  pub value-output : (p : ℕ) → value m (radix rs j) (h / radix rs j) v src turns i p ≡ output (plain (residues m w h rs)) (residues m w h rs) j (h / radix rs j) (radix rs j) (cells src) i p
+  pub value-output : (p : ℕ) → value m (radix rs j) (h / radix rs j) v src turns i p ≡ output (plain (residues m w h)) (residues m w h) j (h / radix rs j) (stride rs j) (radix rs j) (cells src) i p
   unfolding value output plain
   value-output p =
       ap (sumTo m (radix rs j) p x turns) {x = 7} {y = radix rs j - 1 + (8 - radix rs j)} (omega arith)

@@ -11,7 +11,6 @@ pub mod Columns
 pub mod Verdicts
 pub mod After
 pub mod Runs
-pub mod Parts
 pub mod Theorems
 pub mod Unique
 pub mod ShutOut

@@ -9,7 +9,8 @@ use lib.Dec.{ltb}
 use lib.ListN.{getD, set}
 use borrow.Author.Tests.{lt-ltb, le-ltb, ltb-true}
 use Rattle.plan.proofs.Products.{radix-least}
-use Rattle.remainder.specs.Rows.{eight, below, rowOf, twiddledRow, sumTo, storeFrom, Under, Ready}
+use Rattle.remainder.specs.Residues.{Under}
+use Rattle.remainder.specs.Rows.{eight, below, rowOf, twiddledRow, sumTo, storeFrom, Ready}
 use Rattle.remainder.proofs.Powers.{mul-mod, next-power}
 
 -- ---- entries

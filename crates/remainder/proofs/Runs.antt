@@ -18,8 +18,7 @@ use Rattle.schedule.specs.Stage.{plain, stage}
 use Rattle.schedule.proofs.Cells.{length-stage}
 use Rattle.schedule.proofs.Buffers.{sourceBy, source-run, held, both-long}
 use Rattle.remainder.specs.Calls.{Lent, Drivable, Workable, stageOf, runOf, runVerdict, lentVerdict}
-use Rattle.remainder.specs.Residues.{residues}
-use Rattle.remainder.specs.Rows.{Under}
+use Rattle.remainder.specs.Residues.{residues, Under}
 use Rattle.remainder.proofs.After.{after, after-length, after-under}
 
 module _ (p : Record) (m w : ℕ) (xs ys : List ℕ) (room : ℕ) (h : Drivable p m w xs room) where
@@ -32,7 +31,7 @@ module _ (p : Record) (m w : ℕ) (xs ys : List ℕ) (room : ℕ) (h : Drivable 
     workable : (t : Bool) → eqb (k % 2) 0 ≡ t → (src : List ℕ) (n : ℕ) → src ≡ sourceBy t (both k) → n ≡ p .half → Workable p k m w src n
     workable t e src n s f =
         let same : src ≡ after p m w xs (h .lent) k
-        = s ∙ ap (λ (u : Bool). sourceBy u (both k)) (sym e) ∙ source-run (residues m w (p .half) (inUse p)) (p .half) (inUse p) (xs, ys) k in
+        = s ∙ ap (λ (u : Bool). sourceBy u (both k)) (sym e) ∙ source-run (residues m w (p .half)) (p .half) (inUse p) (xs, ys) k in
         record {
           planned = h .lent .planned;
           known = l;
@@ -49,15 +48,16 @@ module _ (p : Record) (m w : ℕ) (xs ys : List ℕ) (room : ℕ) (h : Drivable 
     pub odd-workable : (k % 2 ≡ 0 → ⊥) → (src : List ℕ) (n : ℕ) → src ≡ both k .1 → n ≡ p .half → Workable p k m w src n
     odd-workable e = workable false (ne-eqb (k % 2) 0 e)
 
-  -- both stay as long as they are
-  pub both-lengths : length ys ≡ p .half → (k : ℕ) → (length (both k .0) ≡ p .half) × (length (both k .1) ≡ p .half)
-  unfolding stage
-  both-lengths e = both-long (λ j. stageOf p j m w) (xs, ys) (p .half) made (h .lent .long) e
-    where
-      made : (k : ℕ) (zs : List ℕ) → length (stageOf p k m w zs) ≡ p .half
-      made k zs =
-          let a = residues m w (p .half) (inUse p) in
-          length-stage (plain a) a k (p .half) (stride (inUse p) k) (radix (inUse p) k) zs
+-- both buffers stay as long as they are
+pub both-lengths : (p : Record) (m w : ℕ) (xs ys : List ℕ) → length xs ≡ p .half → length ys ≡ p .half → (k : ℕ)
+    → (length (alternated (λ j. stageOf p j m w) k (xs, ys) .0) ≡ p .half) × (length (alternated (λ j. stageOf p j m w) k (xs, ys) .1) ≡ p .half)
+unfolding stage
+both-lengths p m w xs ys = both-long (λ j. stageOf p j m w) (xs, ys) (p .half) made
+  where
+    made : (k : ℕ) (zs : List ℕ) → length (stageOf p k m w zs) ≡ p .half
+    made k zs =
+        let a = residues m w (p .half) in
+        length-stage (plain a) a k (p .half) (stride (inUse p) k) (radix (inUse p) k) zs
 
 -- ---- the verdict of a run
 
@@ -75,4 +75,4 @@ pub held-after : (p : Record) (m w : ℕ) (xs ys : List ℕ) (h : Lent p m w xs)
 unfolding driven resultIn
 held-after p m w xs ys h =
     held (eqb (p .count) 1) (eqb (p .count % 2) 0) (alternated (λ j. stageOf p j m w) (p .count) (xs, ys)) (λ e. ap (λ (n : ℕ). eqb (n % 2) 0) (eqb-true (p .count) 1 e))
-    ∙ source-run (residues m w (p .half) (inUse p)) (p .half) (inUse p) (xs, ys) (p .count)
+    ∙ source-run (residues m w (p .half)) (p .half) (inUse p) (xs, ys) (p .count)

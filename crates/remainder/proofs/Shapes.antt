@@ -7,7 +7,8 @@ use mathlib.Core.List.{List}
 use lib.ListN.{length}
 use lib.Arith.{digits-lt}
 use Rattle.plan.proofs.Products.{radix-least}
-use Rattle.remainder.specs.Rows.{Modulus, Under, Shape, Ready}
+use Rattle.remainder.specs.Residues.{Under}
+use Rattle.remainder.specs.Rows.{Modulus, Shape, Ready}
 
 -- a factor is at most the product
 factor-le : (a b : ℕ) → 0 < b → a ≤ a * b

@@ -19,26 +19,25 @@ unfolding turn
 turn-none m w h L x l = simp (zero-mul, pow-zero, mul-one) (sym l)
 
 -- an output is the sum of its terms
-total-sum : (m w h : ℕ) (rs : List ℕ) (r : ℕ) (x g : ℕ → ℕ) (p : ℕ)
+total-sum : (m w h r : ℕ) (x g : ℕ → ℕ) (p : ℕ)
     → ((q : ℕ) → q < r → turn m w h (kernelTurn p q r) (x q) ≡ g q % m) → x 0 ≡ x 0 % m
-    → (q : ℕ) → q < r → total (residues m w h rs) r x p q ≡ sum (suc q) g % m
+    → (q : ℕ) → q < r → total (residues m w h) r x p q ≡ sum (suc q) g % m
 unfolding total residues sum kernelTurn
-total-sum m w h rs r x g p term reduced zero l =
+total-sum m w h r x g p term reduced zero l =
     sym (turn-none m w h r (x 0) reduced) ∙ simp (mul-zero, zero-mod) at (term zero l) ∙ rw zero-add
-total-sum m w h rs r x g p term reduced (suc q) l =
-    rw (total-sum m w h rs r x g p term reduced q (le-of-lt l), term (suc q) l) (sym (add-mod _ _ m))
+total-sum m w h r x g p term reduced (suc q) l =
+    rw (total-sum m w h r x g p term reduced q (le-of-lt l), term (suc q) l) (sym (add-mod _ _ m))
 
 first-cell : (m w h M : ℕ) (c : ℕ → ℕ) (i L : ℕ) → c (i + 0 * M) ≡ c (i + 0 * M) % m → turn m w h (record { t = 0; L = L }) (c (i + 0 * M)) ≡ c i
 first-cell m w h M c i L e = turn-none m w h L (c (i + 0 * M)) e ∙ ap c (rw zero-mul (add-zero i))
 
 -- what an iteration reads is the cell turned by its twiddle, in the first stage too
-pub read-turned : (m w h : ℕ) (rs : List ℕ) (j M : ℕ) (c : ℕ → ℕ) (i q : ℕ) → c (i + q * M) ≡ c (i + q * M) % m → (j ≡ 0 → stride rs j ≡ 1)
-    → read (residues m w h rs) j M c i q ≡ turn m w h (twiddleTurn (stride rs j) (radix rs j) i q) (c (i + q * M))
+pub read-turned : (m w h j M s r : ℕ) (c : ℕ → ℕ) (i q : ℕ) → c (i + q * M) ≡ c (i + q * M) % m → (j ≡ 0 → s ≡ 1)
+    → read (residues m w h) j M s r c i q ≡ turn m w h (twiddleTurn s r i q) (c (i + q * M))
 unfolding read residues twiddledIn twiddleTurn
-read-turned m w h rs zero M c i zero e f = sym (simp (mul-zero) (first-cell m w h M c i (stride rs 0 * radix rs 0) e))
-read-turned m w h rs (suc j) M c i zero e f = sym (simp (mul-zero) (first-cell m w h M c i (stride rs (suc j) * radix rs (suc j)) e))
-read-turned m w h rs zero M c i (suc q) e f = rw (f refl, mod-one, zero-mul) (sym (turn-none m w h _ _ e))
-read-turned m w h rs (suc j) M c i (suc q) e f = refl
+read-turned m w h j M s r c i zero e f = sym (simp (mul-zero) (first-cell m w h M c i (s * r) e))
+read-turned m w h zero M s r c i (suc q) e f = rw (f refl, mod-one, zero-mul) (sym (turn-none m w h _ _ e))
+read-turned m w h (suc j) M s r c i (suc q) e f = refl
 
 turn-reduced : (m w h : ℕ) (a : Part) (x : ℕ) → turn m w h a x ≡ turn m w h a x % m
 unfolding turn
@@ -85,7 +84,7 @@ module _ (m w h n s r : ℕ) (parts : h ≡ n * (s * r)) (circle : w ^ h % m ≡
 -- One stage: the block sums at the stride before it become those at the stride after it.
 module _ (m w h n : ℕ) (rs : List ℕ) (j : ℕ) (parts : h ≡ n * (stride rs j * radix rs j)) (circle : w ^ h % m ≡ 1 % m) (first : j ≡ 0 → stride rs j ≡ 1) (x : ℕ → ℕ) where
   output-block : 0 < stride rs j → 0 < radix rs j → (c : ℕ → ℕ) → Blocks m w h (stride rs j) x c → (b k : ℕ) → b < n
-      → output (plain (residues m w h rs)) (residues m w h rs) j (h / radix rs j) (radix rs j) c (b * stride rs j + k % stride rs j) (k / stride rs j)
+      → output (plain (residues m w h)) (residues m w h) j (h / radix rs j) (stride rs j) (radix rs j) c (b * stride rs j + k % stride rs j) (k / stride rs j)
       ≡ blockSum m w h (stride rs j * radix rs j) x b k
   unfolding blockSum output plain
   output-block ps pr c before b k lb =
@@ -93,16 +92,16 @@ module _ (m w h n : ℕ) (rs : List ℕ) (j : ℕ) (parts : h ≡ n * (stride rs
       let r = radix rs j in
       let all : suc (r - 1) ≡ r = omega arith in
       let i = b * s + k % s in
-      let turned : (q : ℕ) → q < r → read (residues m w h rs) j (h / r) c i q ≡ turn m w h (twiddleTurn s r i q) (c (i + q * (h / r)))
-      = λ q lq. read-turned m w h rs j (h / r) c i q (cell-reduced m w h n s r parts circle x ps pr c before b k lb q lq) first in
-      total-sum m w h rs r (read (residues m w h rs) j (h / r) c i) (λ q. sum s (λ u. x (b + n * (u * r + q)) * w ^ (n * (u * r + q) * k))) (k / s)
+      let turned : (q : ℕ) → q < r → read (residues m w h) j (h / r) s r c i q ≡ turn m w h (twiddleTurn s r i q) (c (i + q * (h / r)))
+      = λ q lq. read-turned m w h j (h / r) s r c i q (cell-reduced m w h n s r parts circle x ps pr c before b k lb q lq) first in
+      total-sum m w h r (read (residues m w h) j (h / r) s r c i) (λ q. sum s (λ u. x (b + n * (u * r + q)) * w ^ (n * (u * r + q) * k))) (k / s)
       (λ q lq. rw (turned q lq) (term m w h n s r parts circle x ps pr c before b k lb q lq))
       (rw (turned 0 pr) (turn-reduced m w h _ _)) (r - 1) (omega arith)
       ∙ rw (all, sum-digits, by-both h n s r parts ps pr)
 
   pub stage-blocks : (c : ℕ → ℕ) → Blocks m w h (stride rs j) x c
       → Blocks m w h (stride rs j * radix rs j) x
-      (λ k. output (plain (residues m w h rs)) (residues m w h rs) j (h / radix rs j) (radix rs j) c (iteration (stride rs j) (radix rs j) k) (place (stride rs j) (radix rs j) k))
+      (λ k. output (plain (residues m w h)) (residues m w h) j (h / radix rs j) (stride rs j) (radix rs j) c (iteration (stride rs j) (radix rs j) k) (place (stride rs j) (radix rs j) k))
   stage-blocks c before b k lb lk =
       let s = stride rs j in
       let r = radix rs j in

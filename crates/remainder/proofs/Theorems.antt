@@ -1,27 +1,29 @@
 -- What the promises of the calls give: each stage call of a chain is accepted, after it every block holds the shorter sum, and after the
--- last the cells hold the discrete Fourier transform in remainders; the same of the buffer with the result after a run, and of the part
--- that is handed back. The premise `Lent` asks for no more than the calls do. Assumes nothing.
-use Prim.Native.Nat.{ℕ, zero, suc, _<_, _≤_}
+-- last the cells hold the discrete Fourier transform in remainders; the same of the buffer with the result after a run, which leaves in
+-- both buffers what the calls, written alternately, leave there. The premise `Lent` asks for no more than the calls do. Assumes nothing.
+use Prim.Native.Nat.{ℕ, zero, suc, _%_, _<_, _≤_}
 use native.Mathlib.Nat.{le-of-lt, le-refl}
 use mathlib.Core.Path.{_≡_, refl, sym, ap, ap₂, _∙_}
-use mathlib.Core.List.{List, []}
+use mathlib.Core.Bool.{Bool, true, false}
+use mathlib.Core.List.{List}
+use lib.Dec.{eqb}
 use lib.ListN.{length}
-use Rattle.refusal.specs.Refusal.{left}
 use Rattle.refusal.specs.declared.Verdict.{Verdict}
 use Rattle.refusal.specs.declared.Verdict.the-variants.{Accepted}
 use Rattle.refusal.proofs.Rows.{settled}
 use Rattle.plan.specs.Counts.{stride, resultIn}
 use Rattle.plan.specs.declared.Record.{Record}
-use Rattle.schedule.specs.Buffers.{Two, heldIn}
+use Rattle.schedule.specs.Buffers.{Two, across, alternated, copiedBy, driven, heldIn}
 use Rattle.schedule.specs.Plans.{inUse}
 use Rattle.schedule.specs.Stage.{run}
+use Rattle.schedule.proofs.Buffers.{sourceBy, source-run}
 use Rattle.schedule.proofs.Plans.{use-length, use-product}
-use Rattle.remainder.specs.Calls.{Lent, Chain, Stages, Runs, Hands, stageOf, stageVerdict, runOf, runVerdict}
-use Rattle.remainder.specs.Residues.{cells, transform, Blocks}
+use Rattle.remainder.specs.Calls.{Lent, Chain, Called, Alternately, Stages, Runs, stageOf, stageVerdict, runOf, runVerdict}
+use Rattle.remainder.specs.Residues.{residues, cells, transform, Blocks}
 use Rattle.remainder.proofs.Blocks.{run-transform}
 use Rattle.remainder.proofs.Verdicts.{all-taken, stage-lent, none-refused}
 use Rattle.remainder.proofs.After.{after, circle, all, after-blocks, after-length, after-under}
-use Rattle.remainder.proofs.Runs.{held-after, run-lent}
+use Rattle.remainder.proofs.Runs.{both-lengths, held-after, run-lent}
 
 module _ (p : Record) (m w : ℕ) (xs : List ℕ) (h : Lent p m w xs) where
   -- what the stages before it wrote is accepted
@@ -31,7 +33,7 @@ module _ (p : Record) (m w : ℕ) (xs : List ℕ) (h : Lent p m w xs) where
       ∙ sym (all-taken (p .half) m w (after p m w xs h j) (p .half) (h .modulus) (h .base) (h .circle) (after-length p m w xs h j) refl _ refl (none-refused m (after p m w xs h j) (after-under p m w xs h j (le-of-lt l))))
 
   -- so a chain of calls leaves what the schedule states
-  pub chain-after : (j : ℕ) → j ≤ p .count → (zs : List ℕ) → Chain p m w j xs zs → zs ≡ after p m w xs h j
+  pub chain-after : (j : ℕ) → j ≤ p .count → (zs : List ℕ) → Chain p m w j xs zs → zs ≡ run (residues m w (p .half)) (p .half) (inUse p) j xs
   unfolding run
   chain-after zero l zs c = sym c
   chain-after (suc j) l zs (ys, (old, (r, (c, (e, s))))) =
@@ -76,9 +78,36 @@ module _ (p : Record) (m w : ℕ) (xs : List ℕ) (h : Lent p m w xs) where
   run-transforms ys e r b s k l =
       ap (λ (c : Two ℕ). cells (heldIn (resultIn (p .count)) c) k) (settled _ _ _ _ _ s (run-taken ys e)) ∙ result-transform ys k l
 
-  -- and so does the part that is handed back
-  pub part-transforms : {P : Type 0} (at : P × P) (ys : List ℕ) → length ys ≡ p .half → (number place : ℕ) (zs : List ℕ) (q : P)
-      → Hands p m w (xs, ys) at number place zs q → (k : ℕ) → k < p .half → cells zs k ≡ transform m w (p .half) (cells xs) k
-  part-transforms at ys e number place zs q s k l =
-      ap (λ (c : List ℕ). cells c k) (s .part ∙ ap (λ (v : Verdict). left v (heldIn (resultIn (p .count)) (runOf p m w (xs, ys))) []) (run-taken ys e))
-      ∙ result-transform ys k l
+  -- stage calls written alternately leave what the stages do
+  alternates : (ys : List ℕ) → length ys ≡ p .half → (k : ℕ) → k ≤ p .count → (b : Two ℕ) → Alternately p m w k (xs, ys) b
+      → b ≡ alternated (λ j. stageOf p j m w) k (xs, ys)
+  unfolding alternated
+  alternates ys e zero l b a = sym a
+  alternates ys e (suc k) l b (c, (r, (a, called))) = go (alternates ys e k (le-of-lt l) c a) (eqb (k % 2) 0) refl called
+    where
+      stages : Two ℕ
+      stages = alternated (λ j. stageOf p j m w) k (xs, ys)
+
+      long : (length (stages .0) ≡ p .half) × (length (stages .1) ≡ p .half)
+      long = both-lengths p m w xs ys (h .long) e k
+
+      taken : (src : List ℕ) (n : ℕ) → src ≡ sourceBy (eqb (k % 2) 0) stages → n ≡ p .half → stageVerdict p k m w src n ≡ Accepted
+      taken src n f g = ap₂ (stageVerdict p k m w) (f ∙ source-run (residues m w (p .half)) (p .half) (inUse p) (xs, ys) k) g ∙ each-accepted k l
+
+      go : c ≡ stages → (t : Bool) → eqb (k % 2) 0 ≡ t → Called t p k m w c r b → b ≡ across t (stageOf p k m w) stages
+      go same true f (kept, s) =
+          ap₂ (λ (d q : List ℕ). (d, q)) (kept ∙ ap (λ (u : Two ℕ). u .0) same)
+          (settled _ _ _ _ _ s (taken (c .0) (length (c .1)) (ap (λ (u : Two ℕ). u .0) same ∙ ap (λ (u : Bool). sourceBy u stages) (sym f)) (ap (λ (u : Two ℕ). length (u .1)) same ∙ long .1))
+          ∙ ap (λ (u : Two ℕ). stageOf p k m w (u .0)) same)
+      go same false f (kept, s) =
+          ap₂ (λ (d q : List ℕ). (d, q))
+          (settled _ _ _ _ _ s (taken (c .1) (length (c .0)) (ap (λ (u : Two ℕ). u .1) same ∙ ap (λ (u : Bool). sourceBy u stages) (sym f)) (ap (λ (u : Two ℕ). length (u .0)) same ∙ long .0))
+          ∙ ap (λ (u : Two ℕ). stageOf p k m w (u .1)) same)
+          (kept ∙ ap (λ (u : Two ℕ). u .1) same)
+
+  -- a run leaves in both buffers what the stage calls, written alternately, leave there; then a single radix is copied back
+  pub run-alternates : (ys : List ℕ) → length ys ≡ p .half → (r : Verdict) (b c : Two ℕ) → Runs p m w (xs, ys) r b → Alternately p m w (p .count) (xs, ys) c
+      → b ≡ copiedBy (eqb (p .count) 1) c
+  unfolding driven
+  run-alternates ys e r b c s a =
+      settled _ _ _ _ _ s (run-taken ys e) ∙ ap (copiedBy (eqb (p .count) 1)) (sym (alternates ys e (p .count) (le-refl (p .count)) c a))

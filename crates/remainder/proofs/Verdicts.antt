@@ -13,8 +13,8 @@ use Rattle.refusal.proofs.Rows.{accepted-by}
 use Rattle.plan.specs.Lists.{firstThat}
 use Rattle.plan.specs.Record.{isPlanned}
 use Rattle.plan.specs.declared.Record.{Record}
+use Rattle.remainder.specs.Residues.{Under}
 use Rattle.remainder.specs.Calls.{firstLarge, lentVerdict, stageVerdict, Lent}
-use Rattle.remainder.specs.Rows.{Under}
 
 module _ (h m w : ℕ) (xs : List ℕ) (room : ℕ) where
   pub no-modulus : m < 2 → Refused Modulus ≡ lentVerdict h m w xs room

@@ -1,22 +1,20 @@
 -- The calls in remainders: which are refused, what an accepted one leaves, and what each promises. Assumes nothing.
 use Prim.Native.Nat.{ℕ, zero, suc, _%_, _^_, _<_}
 use mathlib.Core.Path.{_≡_}
-use mathlib.Core.Bool.{true, not, _||_}
+use mathlib.Core.Bool.{Bool, true, false, not, _||_}
 use mathlib.Core.List.{List, [], _∷_}
 use lib.Dec.{eqb, ltb}
 use lib.ListN.{length}
-use Rattle.refusal.specs.Refusal.{Row, _⇒_, verdict, numberIn, placeIn, left, Settles}
+use Rattle.refusal.specs.Refusal.{Row, _⇒_, verdict, Settles}
 use Rattle.refusal.specs.declared.Refusal.the-variants.{NotPlanned, Length, Modulus, Base, Remainder, Stage}
 use Rattle.refusal.specs.declared.Verdict.{Verdict}
-use Rattle.plan.specs.Counts.{resultIn}
 use Rattle.plan.specs.Lists.{firstThat}
 use Rattle.plan.specs.Record.{isPlanned}
 use Rattle.plan.specs.declared.Record.{Record}
-use Rattle.schedule.specs.Buffers.{Two, heldIn, driven}
+use Rattle.schedule.specs.Buffers.{Two, driven}
 use Rattle.schedule.specs.Plans.{inUse}
 use Rattle.schedule.specs.Stage.{stage}
-use Rattle.remainder.specs.Residues.{residues}
-use Rattle.remainder.specs.Rows.{Under}
+use Rattle.remainder.specs.Residues.{residues, Under}
 use Rattle.remainder.specs.Rows as Rows
 
 -- the index of the first number not below m, or the length
@@ -47,7 +45,7 @@ runVerdict p m w xs room = verdict (not (isPlanned p) ⇒ NotPlanned 0 ∷ lentR
 
 -- the schedule's stage j of a plan in remainders
 abbrev pub stageOf : Record → (j m w : ℕ) → List ℕ → List ℕ
-stageOf p j m w xs = stage (residues m w (p .half) (inUse p)) (p .half) (inUse p) j xs
+stageOf p j m w xs = stage (residues m w (p .half)) (p .half) (inUse p) j xs
 
 -- what a run leaves in its two buffers: what the stage calls, written alternately, leave there, a single radix copied back
 abbrev pub runOf : Record → (m w : ℕ) → Two ℕ → Two ℕ
@@ -60,14 +58,6 @@ Stages p j m w input other r after = Settles (stageVerdict p j m w input (length
 -- what `run` promises of its answer r and of what is left in its two buffers
 abbrev pub Runs : Record → (m w : ℕ) → Two ℕ → Verdict → Two ℕ → Type 0
 Runs p m w before r after = Settles (runVerdict p m w (before .0) (length (before .1))) (runOf p m w before) before r after
-
--- what `transform` promises of the number n and the place k it tells, of the part it hands back and of the address q of that part, when the
--- two buffers are lent at the addresses `at`
-pub record Hands {P : Type 0} (p : Record) (m w : ℕ) (before : Two ℕ) (at : P × P) (n k : ℕ) (xs : List ℕ) (q : P) : Type 0 where
-  pub number : n ≡ numberIn (runVerdict p m w (before .0) (length (before .1)))
-  pub place : k ≡ placeIn (runVerdict p m w (before .0) (length (before .1)))
-  pub part : xs ≡ left (runVerdict p m w (before .0) (length (before .1))) (heldIn (resultIn (p .count)) (runOf p m w before)) []
-  pub address : q ≡ left (runVerdict p m w (before .0) (length (before .1))) (heldIn (resultIn (p .count)) at) (at .0)
 
 -- what the work of a stage asks for
 pub record Workable (p : Record) (j m w : ℕ) (src : List ℕ) (room : ℕ) : Type 0 where
@@ -99,3 +89,13 @@ abbrev pub Chain : Record → (m w j : ℕ) → (xs zs : List ℕ) → Type 0
 Chain p m w zero xs zs = xs ≡ zs
 Chain p m w (suc j) xs zs =
     (ys : List ℕ) × ((old : List ℕ) × ((r : Verdict) × (Chain p m w j xs ys × ((length old ≡ p .half) × Stages p j m w ys old r zs))))
+
+-- stage call k on two buffers, from Data to Scratchpad or back: r is its answer, and b what is left of them
+abbrev pub Called : Bool → Record → (k m w : ℕ) → Two ℕ → Verdict → Two ℕ → Type 0
+Called true p k m w c r b = (b .0 ≡ c .0) × Stages p k m w (c .0) (c .1) r (b .1)
+Called false p k m w c r b = (b .1 ≡ c .1) × Stages p k m w (c .1) (c .0) r (b .0)
+
+-- b is what stage calls 0 to k - 1, written alternately, leave of two buffers
+abbrev pub Alternately : Record → (m w k : ℕ) → (before b : Two ℕ) → Type 0
+Alternately p m w zero before b = before ≡ b
+Alternately p m w (suc k) before b = (c : Two ℕ) × ((r : Verdict) × (Alternately p m w k before c × Called (eqb (k % 2) 0) p k m w c r b))

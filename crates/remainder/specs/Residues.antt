@@ -4,26 +4,29 @@ use Prim.Native.Nat.{ℕ, zero, suc, _+_, _*_, _/_, _%_, _^_, _<_}
 use mathlib.Core.Path.{_≡_}
 use mathlib.Core.List.{List}
 use lib.ListN.{getD}
-use Rattle.plan.specs.Counts.{radix, stride}
-use Rattle.schedule.specs.Stage.{Part, Arith, twiddleTurn}
+use Rattle.schedule.specs.Stage.{Part, Arith}
 
 -- x turned by t of L parts of a circle: times w to the power t * h / L
 unfoldable pub turn : (m w h : ℕ) → Part → ℕ → ℕ
 turn m w h a x = x * w ^ (a .t * (h / a .L)) % m
 
--- remainders under the radices rs: a twiddle is the turn that the schedule states
-unfoldable pub residues : (m w h : ℕ) → List ℕ → Arith ℕ
-residues m w h rs =
+-- remainders: a cell and a twiddle are turned alike
+unfoldable pub residues : (m w h : ℕ) → Arith ℕ
+residues m w h =
     record {
       blank = 0;
       plus = λ x y. (x + y) % m;
       turned = turn m w h;
-      twiddled = λ j i q. turn m w h (twiddleTurn (stride rs j) (radix rs j) i q);
+      twiddled = λ j i q. turn m w h;
     }
 
 -- the cells of a list
 abbrev pub cells : List ℕ → ℕ → ℕ
 cells xs n = getD xs n 0
+
+-- the first n cells of a list are remainders
+abbrev pub Under : (m n : ℕ) → List ℕ → Type 0
+Under m n xs = (k : ℕ) → k < n → cells xs k < m
 
 -- f 0 + .. + f (n - 1)
 unfoldable pub sum : ℕ → (ℕ → ℕ) → ℕ

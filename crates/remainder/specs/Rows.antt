@@ -6,6 +6,7 @@ use mathlib.Core.List.{List, [], _∷_}
 use lib.Dec.{ltb}
 use lib.ListN.{length, getD, set}
 use Rattle.plan.specs.Lists.{isRadix}
+use Rattle.remainder.specs.Residues.{Under}
 
 -- f 0 to f 7
 abbrev pub eight : (ℕ → ℕ) → List ℕ
@@ -60,10 +61,6 @@ pub record Shape (n s r apart cells : ℕ) : Type 0 where
   pub columns : 0 < s
   pub radix : isRadix r ≡ true
   pub few : cells ≤ 4096
-
--- the first r entries are remainders
-abbrev pub Under : (m r : ℕ) → List ℕ → Type 0
-Under m r x = (q : ℕ) → q < r → getD x q 0 < m
 
 -- what storing outputs asks for: remainders, and writes within a list of `into` cells
 pub record Storable (m r s to : ℕ) (x turns : List ℕ) (into : ℕ) : Type 0 where

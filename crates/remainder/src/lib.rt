@@ -3,14 +3,12 @@ pub mod inner;
 
 use inner::check::lent;
 use inner::drive::all;
-use inner::drive::part;
 use inner::stage::work;
 use plan::Record;
 use plan::inner::records::is_planned;
-use plan::inner::stages::result_in;
 use refusal::Refusal;
 use refusal::Verdict;
-ghost use Rattle.remainder.specs.Calls.{Stages, Runs, Hands};
+ghost use Rattle.remainder.specs.Calls.{Stages, Runs};
 
 // Stage `number` of a plan in remainders modulo m: what the input makes is written to the other buffer.
 pub fn stage(
@@ -51,27 +49,5 @@ pub fn run(plan: Record, m: u32, w: u32, data: &mut [u32], scratch: &mut [u32]) 
             Verdict::Accepted
         }
         Verdict::Refused(why) => Verdict::Refused(why),
-    }
-}
-
-// A run that hands back the part with the result and tells 0 and 0; or a refusal's number and place, and an empty part of Data.
-pub fn transform<'a>(
-    plan: Record,
-    m: u32,
-    w: u32,
-    data: &'a mut [u32],
-    scratch: &'a mut [u32],
-    number: &mut u32,
-    place: &mut usize,
-) -> &'a mut [u32]
-    ensures { λ r. ⌜ Hands plan m w (now («data» .entry), now (scratch .entry)) («data» .entry .ptr, scratch .entry .ptr) (now (number .exit)) (now (place .exit)) (now r) (r .ptr) ⌝ }
-{
-    let verdict = run(plan, m, w, data, scratch);
-    *number = verdict.number();
-    *place = verdict.place();
-    let h = plan.half;
-    match verdict {
-        Verdict::Accepted => part(data, scratch, h, result_in(plan.count)),
-        Verdict::Refused(_) => &mut data[..0],
     }
 }

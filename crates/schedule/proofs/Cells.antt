@@ -99,7 +99,7 @@ module _ (s r j : ℕ) (ps : 0 < s) (pr : 0 < r) where
 module _ {A : Type 0} (kernel : Kernel A) (a : Arith A) (j h n s r : ℕ) (parts : h ≡ n * (s * r)) (ps : 0 < s) where
   -- cell `index s r i p` of the list that a stage makes is output p of iteration i
   pub stage-output : (xs : List A) (i p : ℕ) → i < h / r → p < r
-      → getD (stageBy kernel a j h s r xs) (index s r i p) (a .blank) ≡ output kernel a j (h / r) r (λ q. getD xs q (a .blank)) i p
+      → getD (stageBy kernel a j h s r xs) (index s r i p) (a .blank) ≡ output kernel a j (h / r) s r (λ q. getD xs q (a .blank)) i p
   unfolding stageBy
   stage-output xs i p li lp =
       getD-tabulate h 0 _ (index s r i p) (a .blank) (index-lt s r i p ps lp h n parts li)
@@ -107,7 +107,7 @@ module _ {A : Type 0} (kernel : Kernel A) (a : Arith A) (j h n s r : ℕ) (parts
 
   -- so a list of h cells that has every output in its place is what the stage makes
   pub stage-by-outputs : 0 < r → (xs ys : List A) → length ys ≡ h
-      → ((i p : ℕ) → i < h / r → p < r → getD ys (index s r i p) (a .blank) ≡ output kernel a j (h / r) r (λ q. getD xs q (a .blank)) i p)
+      → ((i p : ℕ) → i < h / r → p < r → getD ys (index s r i p) (a .blank) ≡ output kernel a j (h / r) s r (λ q. getD xs q (a .blank)) i p)
       → ys ≡ stageBy kernel a j h s r xs
   unfolding stageBy
   stage-by-outputs pr xs ys len outputs =

@@ -119,9 +119,9 @@ module _ {A : Type 0} (s r h n : ℕ) (parts : h ≡ n * (s * r)) (ps : 0 < s) (
 
 -- so the columns written one after the other are the stage
 pub columns-stage : {A : Type 0} (kernel : Kernel A) (a : Arith A) (j h n s r : ℕ) → h ≡ n * (s * r) → 0 < s → 0 < r → (xs ys : List A) → length ys ≡ h
-    → putColumns s r n (output kernel a j (h / r) r (λ q. getD xs q (a .blank))) ys s ≡ stageBy kernel a j h s r xs
+    → putColumns s r n (output kernel a j (h / r) s r (λ q. getD xs q (a .blank))) ys s ≡ stageBy kernel a j h s r xs
 columns-stage kernel a j h n s r parts ps pr xs ys e =
-    let v = output kernel a j (h / r) r (λ q. getD xs q (a .blank)) in
+    let v = output kernel a j (h / r) s r (λ q. getD xs q (a .blank)) in
     stage-by-outputs kernel a j h n s r parts ps pr xs (putColumns s r n v ys s) (length-columns s r h n parts ps pr v (a .blank) ys s ∙ e)
     (all-placed s r h n parts ps pr v (a .blank) ys e)
 

@@ -42,8 +42,8 @@ pub record Arith (A : Type 0) : Type 0 where
   pub plus : A → A → A
   -- a cell turned by a part of a circle
   pub turned : Part → A → A
-  -- a cell times twiddle q of iteration i of stage j
-  pub twiddled : (j i q : ℕ) → A → A
+  -- a cell turned by twiddle q of iteration i of stage j, which is this part of a circle
+  pub twiddled : (j i q : ℕ) → Part → A → A
 
 -- From the cells that an iteration reads, numbered from 0, to its outputs: for each radix.
 abbrev pub Kernel : Type 0 → Type 0
@@ -56,14 +56,14 @@ tabulate (suc k) n f = f n ∷ tabulate k (suc n) f
 
 module _ {A : Type 0} where
   -- the first stage has no twiddles
-  unfoldable pub twiddledIn : Arith A → (j i q : ℕ) → A → A
-  twiddledIn a zero i q x = x
-  twiddledIn a (suc j) i q x = a .twiddled (suc j) i q x
+  unfoldable pub twiddledIn : Arith A → (j i q : ℕ) → Part → A → A
+  twiddledIn a zero i q t x = x
+  twiddledIn a (suc j) i q t x = a .twiddled (suc j) i q t x
 
   -- what iteration i of stage j reads of the cells c: cell i, and for q from 1 cell i + q * M, twiddled
-  unfoldable pub read : Arith A → (j M : ℕ) → (ℕ → A) → (i q : ℕ) → A
-  read a j M c i zero = c i
-  read a j M c i (suc q) = twiddledIn a j i (suc q) (c (i + suc q * M))
+  unfoldable pub read : Arith A → (j M s r : ℕ) → (ℕ → A) → (i q : ℕ) → A
+  read a j M s r c i zero = c i
+  read a j M s r c i (suc q) = twiddledIn a j i (suc q) (twiddleTurn s r i (suc q)) (c (i + suc q * M))
 
   -- cell 0, then plus cell q turned, for q from 1 to the last argument
   unfoldable pub total : Arith A → (r : ℕ) → (ℕ → A) → (p q : ℕ) → A
@@ -75,13 +75,13 @@ module _ {A : Type 0} where
   plain a r x p = total a r x p (r - 1)
 
   -- output p of iteration i of stage j, from the cells c
-  unfoldable pub output : Kernel A → Arith A → (j M r : ℕ) → (ℕ → A) → (i p : ℕ) → A
-  output kernel a j M r c i p = kernel r (read a j M c i) p
+  unfoldable pub output : Kernel A → Arith A → (j M s r : ℕ) → (ℕ → A) → (i p : ℕ) → A
+  output kernel a j M s r c i p = kernel r (read a j M s r c i) p
 
   -- the h cells that stage j makes of a list, by any kernel
   unfoldable pub stageBy : Kernel A → Arith A → (j h s r : ℕ) → List A → List A
   stageBy kernel a j h s r xs =
-      tabulate h 0 (λ n. output kernel a j (h / r) r (λ k. getD xs k (a .blank)) (iteration s r n) (place s r n))
+      tabulate h 0 (λ n. output kernel a j (h / r) s r (λ k. getD xs k (a .blank)) (iteration s r n) (place s r n))
 
   -- stage j of the radices rs, by the plain sum
   unfoldable pub stage : Arith A → (h : ℕ) → List ℕ → ℕ → List A → List A

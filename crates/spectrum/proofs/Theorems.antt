@@ -22,19 +22,15 @@ use Rattle.twiddle.proofs.Verdicts.{width-bounds}
 use Rattle.floats.specs.Complexes.{paired, flat}
 use Rattle.floats.specs.Scan.{fits, firstUnfit}
 use Rattle.floats.proofs.Scan.{joined-none}
-use Rattle.stage.specs.Runs.{stageIn, runOf, lentTo}
+use Rattle.stage.specs.Runs.{stageIn, runOf, lentTo, Alike}
 use Rattle.stage.proofs.Accepted.{all-fit-alike}
-use Rattle.stage.proofs.Same.{AgreeAll, plan-agree, stage-lent}
+use Rattle.stage.proofs.Same.{plan-agree, stage-lent}
 use Rattle.ends.specs.Ends.{postprocess-fft, zeros}
 use Rattle.spectrum.specs.Calls.{lentVerdict, Forwards, Inverts}
 use Rattle.spectrum.specs.Transforms.{Slices, withBoth, forwardRun, forwardOf, inverseRun, restored, inverseOf}
 use Rattle.spectrum.proofs.Verdicts.{lent-taken, all-sized, all-fit, numbers-decide}
 
 -- ---- widths
-
--- the same words are lent at two widths
-abbrev pub Alike : Record → (W W′ : ℕ) → (stage stage′ : List Float) → Type 0
-Alike p W W′ stage stage′ = AgreeAll p (lentTo p W stage) (lentTo p W′ stage′)
 
 module _ (p : Record) (planned : isPlanned p ≡ true) (W W′ : ℕ) (some : 0 < W) (some′ : 0 < W′) (stage stage′ : List Float) (alike : Alike p W W′ stage stage′) where
   run-same : (b : Two Float) → runOf p W stage b ≡ runOf p W′ stage′ b

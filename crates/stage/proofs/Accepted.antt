@@ -25,9 +25,9 @@ use Rattle.floats.specs.declared.complex.Complex.{Complex}
 use Rattle.floats.proofs.Scan.{BothPass, cell-passes, no-cell-fails}
 use Rattle.kernel.specs.Floats.{lentAt}
 use Rattle.stage.specs.Calls.{stageVerdict}
-use Rattle.stage.specs.Runs.{lentTo}
+use Rattle.stage.specs.Runs.{lentTo, Agree, AgreeAll}
 use Rattle.stage.proofs.Runs.{own-within}
-use Rattle.stage.proofs.Same.{Agree, AgreeAll, own-count}
+use Rattle.stage.proofs.Same.{own-count}
 use Rattle.stage.proofs.Verdicts.{stage-taken, all-sized, all-fit, numbers-decide}
 
 module _ (P : Complex → Type 0) (W W′ : ℕ) (width : 0 < W) (width′ : 0 < W′) where

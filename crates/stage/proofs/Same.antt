@@ -17,31 +17,28 @@ use Rattle.plan.specs.declared.Record.{Record}
 use Rattle.plan.proofs.Counts.{count-later}
 use Rattle.schedule.specs.Buffers.{Two, across, alternated, driven, heldIn}
 use Rattle.schedule.specs.Plans.{inUse}
-use Rattle.schedule.specs.Stage.{iteration, place as placeOf, twiddledIn, read, plain, output, stageBy, stage, run}
+use Rattle.schedule.specs.Stage.{twiddleTurn, kernelTurn, total, iteration, place as placeOf, twiddledIn, read, plain, output, stageBy, stage, run}
 use Rattle.schedule.proofs.Buffers.{sourceBy, source-run, held}
 use Rattle.schedule.proofs.Cells.{iteration-lt, tabulate-same}
 use Rattle.schedule.proofs.Plans.{use-parts, use-radix, use-radix-some, use-stride-some}
+use Rattle.turn.specs.Turns.{turnOf}
 use Rattle.twiddle.specs.Places.{place}
 use Rattle.floats.specs.declared.complex.Complex.{Complex}
-use Rattle.floats.specs.Complexes.{cx, times, cell, paired, flat}
+use Rattle.floats.specs.Complexes.{cx, plus, times, turnedBy, cell, paired, flat}
 use Rattle.floats.proofs.Flat.{paired-flat, flat-paired}
-use Rattle.kernel.specs.Floats.{floats, lentAt, stageOf}
+use Rattle.kernel.specs.Floats.{floats, houseFloats, lentAt, stageOf}
 use Rattle.kernel.proofs.Kernel.{total-same}
 use Rattle.kernel.proofs.Widths.{place-lt}
-use Rattle.stage.specs.Runs.{ownOf, stageIn, runOf, lentTo}
-
--- two stages that are lent the same for each iteration and number
-abbrev pub Agree : (M r : ℕ) → (ℕ → ℕ → Complex) → (ℕ → ℕ → Complex) → Type 0
-Agree M r lent lent′ = (i q : ℕ) → i < M → 1 ≤ q → q < r → lent i q ≡ lent′ i q
+use Rattle.stage.specs.Runs.{ownOf, stageIn, runOf, lentTo, turning, Agree, AgreeAll}
 
 module _ (lent lent′ : ℕ → ℕ → ℕ → Complex) (j h n s r : ℕ) (parts : h ≡ n * (s * r)) (ps : 0 < s) (pr : 0 < r) (agree : 1 ≤ j → Agree (h / r) r (lent j) (lent′ j)) where
-  read-agree : (c : ℕ → Complex) (i q : ℕ) → i < h / r → q < r → read (floats lent) j (h / r) c i q ≡ read (floats lent′) j (h / r) c i q
+  read-agree : (c : ℕ → Complex) (i q : ℕ) → i < h / r → q < r → read (floats lent) j (h / r) s r c i q ≡ read (floats lent′) j (h / r) s r c i q
   unfolding read twiddledIn floats
   read-agree c i zero li lq = refl
   read-agree c i (suc q) li lq = go j agree
     where
       go : (j : ℕ) → (1 ≤ j → Agree (h / r) r (lent j) (lent′ j))
-          → twiddledIn (floats lent) j i (suc q) (c (i + suc q * (h / r))) ≡ twiddledIn (floats lent′) j i (suc q) (c (i + suc q * (h / r)))
+          → twiddledIn (floats lent) j i (suc q) (twiddleTurn s r i (suc q)) (c (i + suc q * (h / r))) ≡ twiddledIn (floats lent′) j i (suc q) (twiddleTurn s r i (suc q)) (c (i + suc q * (h / r)))
       go zero f = refl
       go (suc j) f = ap (times (c (i + suc q * (h / r)))) (f (omega arith) i (suc q) li (omega arith) lq)
 
@@ -52,11 +49,32 @@ module _ (lent lent′ : ℕ → ℕ → ℕ → Complex) (j h n s r : ℕ) (par
       let lk : 0 + k < h = omega arith in
       total-same lent lent′ r _ _ (placeOf s r (0 + k)) (r - 1) (λ q lq. read-agree _ (iteration s r (0 + k)) q (iteration-lt s r (0 + k) ps pr h n parts lk) (omega arith)))
 
--- ---- a plan
+-- ---- lent the words of its own turns, a stage is the schedule with the house table's turns
 
--- all stages of a plan with twiddles
-abbrev pub AgreeAll : Record → (ℕ → ℕ → ℕ → Complex) → (ℕ → ℕ → ℕ → Complex) → Type 0
-AgreeAll p lent lent′ = (j : ℕ) → 1 ≤ j → j < p .count → Agree (p .half / radix (inUse p) j) (radix (inUse p) j) (lent j) (lent′ j)
+module _ (h : ℕ) (rs : List ℕ) where
+  total-housed : (lent : ℕ → ℕ → ℕ → Complex) (r : ℕ) (x y : ℕ → Complex) (p n : ℕ) → ((q : ℕ) → x q ≡ y q) → total (floats lent) r x p n ≡ total houseFloats r y p n
+  unfolding total floats houseFloats
+  total-housed lent r x y p zero e = e 0
+  total-housed lent r x y p (suc n) e = ap₂ plus (total-housed lent r x y p n e) (ap (turnedBy (turnOf (kernelTurn p (suc n) r))) (e (suc n)))
+
+  read-housed : (j M : ℕ) (c : ℕ → Complex) (i q : ℕ) → read (floats (turning rs)) j M (stride rs j) (radix rs j) c i q ≡ read houseFloats j M (stride rs j) (radix rs j) c i q
+  unfolding read twiddledIn floats houseFloats
+  read-housed j M c i zero = refl
+  read-housed zero M c i (suc q) = refl
+  read-housed (suc j) M c i (suc q) = refl
+
+  pub stage-housed : (j : ℕ) (xs : List Complex) → stage (floats (turning rs)) h rs j xs ≡ stage houseFloats h rs j xs
+  unfolding stage stageBy output plain floats houseFloats
+  stage-housed j xs =
+      tabulate-same h 0 _ _ (λ k l.
+      total-housed (turning rs) (radix rs j) _ _ (placeOf (stride rs j) (radix rs j) (0 + k)) (radix rs j - 1) (read-housed j (h / radix rs j) _ (iteration (stride rs j) (radix rs j) (0 + k))))
+
+  pub run-housed : (j : ℕ) (xs : List Complex) → run (floats (turning rs)) h rs j xs ≡ run houseFloats h rs j xs
+  unfolding run
+  run-housed zero xs = refl
+  run-housed (suc j) xs = stage-housed j (run (floats (turning rs)) h rs j xs) ∙ ap (stage houseFloats h rs j) (run-housed j xs)
+
+-- ---- a plan
 
 module _ (p : Record) (e : isPlanned p ≡ true) where
   -- of stage j

@@ -1,5 +1,5 @@
 -- What a reader opens first: whether a stage is accepted, and what it then makes, does not depend on the width its twiddles are packed for; with
--- filled twiddles a stage and a run are the schedule whose twiddles are its own turns; and a refused stage writes nothing. That two outcomes of
+-- the words of its turns, filled or made by anybody else, a stage and a run are the schedule whose twiddles are its own turns; a refused stage writes nothing. That two outcomes of
 -- a call are equal is `Stages-one` of proofs/Unique.antt. Assumes nothing.
 use Prim.Native.Nat.{ℕ, _*_, _/_, _<_}
 use native.Mathlib.Omega.{arith}
@@ -23,12 +23,12 @@ use Rattle.twiddle.specs.declared.inner.ends.Direction.{Direction}
 use Rattle.twiddle.proofs.Theorems.{filled-twiddle}
 use Rattle.twiddle.proofs.Verdicts.{Taken, taken, width-bounds}
 use Rattle.floats.specs.Complexes.{cx, paired, flat}
-use Rattle.kernel.specs.Floats.{floats, lentAt, stageOf}
+use Rattle.kernel.specs.Floats.{houseFloats, lentAt, stageOf}
 use Rattle.kernel.specs.Parts.{Workable}
 use Rattle.stage.specs.Calls.{stageVerdict, Stages}
-use Rattle.stage.specs.Runs.{ownOf, stageIn, runOf, lentTo, turning}
+use Rattle.stage.specs.Runs.{ownOf, stageIn, runOf, lentTo, turning, Agree, AgreeAll}
 use Rattle.stage.proofs.Accepted.{accepted-any-width}
-use Rattle.stage.proofs.Same.{Agree, AgreeAll, plan-agree, run-agree, stage-lent, run-lent}
+use Rattle.stage.proofs.Same.{plan-agree, run-agree, stage-lent, run-lent, stage-housed, run-housed}
 use Rattle.stage.proofs.Verdicts.{stage-workable}
 
 -- ---- a call of a stage
@@ -57,6 +57,18 @@ any-width p j W W′ xs out out′ tw tw′ r r′ ys ys′ s s′ e wide room s
     = s′ .answer ∙ ap (λ (n : ℕ). stageVerdict p j W′ xs n tw′) room ∙ accepted-any-width p j W W′ xs (length out) tw tw′ (sym (s .answer) ∙ e) wide same agree in
     (e′, stage-left p j W xs out tw r ys s e ∙ ap flat (plan-agree p (t .planned) _ _ j (t .known) (λ later. agree) (paired xs)) ∙ sym (stage-left p j W′ xs out′ tw′ r′ ys′ s′ e′))
 
+-- ---- with the words of the schedule's turns, whoever made them
+
+-- a call that is accepted makes what the schedule does with the house table's turns throughout
+pub turned-call : (p : Record) (j W : ℕ) (xs out tw : List Float) (r : Verdict) (ys : List Float) → Stages p j W xs out tw r ys → r ≡ Accepted
+    → Agree (p .half / radix (inUse p) j) (radix (inUse p) j) (lentAt (p .half / radix (inUse p) j) (radix (inUse p) j) W tw) (turning (inUse p) j)
+    → ys ≡ flat (stage houseFloats (p .half) (inUse p) j (paired xs))
+unfolding stageOf
+turned-call p j W xs out tw r ys s e agree =
+    let t = stage-told p j W xs out tw r ys s e in
+    stage-left p j W xs out tw r ys s e
+    ∙ ap flat (plan-agree p (t .planned) _ (turning (inUse p)) j (t .known) (λ later. agree) (paired xs) ∙ stage-housed (p .half) (inUse p) j (paired xs))
+
 -- ---- with the words that an accepted filling leaves
 
 module _ (d : Direction) (p : Record) (W : ℕ) (before : Slices) (r : Verdict) (after : Slices) (fills : Fills d p W before r after) (accepted : r ≡ Accepted) where
@@ -72,24 +84,24 @@ module _ (d : Direction) (p : Record) (W : ℕ) (before : Slices) (r : Verdict) 
       let at = filled-twiddle d p W before r after fills accepted nan j i q later known li first last in
       ap₂ cx (at .first) (at .second)
 
-  -- so a stage is the schedule's, its twiddles the words of the schedule's turns
-  pub filled-stage : (j : ℕ) → j < p .count → (xs : List Float) → stageIn p W (after .0) j xs ≡ flat (stage (floats (turning (inUse p))) (p .half) (inUse p) j (paired xs))
+  -- so a stage is the schedule's with the house table's turns throughout
+  pub filled-stage : (j : ℕ) → j < p .count → (xs : List Float) → stageIn p W (after .0) j xs ≡ flat (stage houseFloats (p .half) (inUse p) j (paired xs))
   filled-stage j l xs =
       stage-lent p (tells .planned) W width (after .0) j l xs
-      ∙ ap flat (plan-agree p (tells .planned) (lentTo p W (after .0)) (turning (inUse p)) j l (λ later. filled-turns j later l) (paired xs))
+      ∙ ap flat (plan-agree p (tells .planned) (lentTo p W (after .0)) (turning (inUse p)) j l (λ later. filled-turns j later l) (paired xs) ∙ stage-housed (p .half) (inUse p) j (paired xs))
 
   -- what an accepted call of a stage leaves when it is lent its own of them
   pub filled-call : (j : ℕ) (xs out : List Float) (v : Verdict) (ys : List Float) → Stages p j W xs out (ownOf p (after .0) j) v ys → v ≡ Accepted
-      → ys ≡ flat (stage (floats (turning (inUse p))) (p .half) (inUse p) j (paired xs))
+      → ys ≡ flat (stage houseFloats (p .half) (inUse p) j (paired xs))
   filled-call j xs out v ys s e =
       stage-left p j W xs out (ownOf p (after .0) j) v ys s e ∙ filled-stage j (stage-told p j W xs out (ownOf p (after .0) j) v ys s e .known) xs
 
   -- and a run's result is the schedule's run
   pub filled-run : (xs ys : List Float) → length xs ≡ 2 * p .half → length ys ≡ 2 * p .half
-      → heldIn (resultIn (p .count)) (runOf p W (after .0) (xs, ys)) ≡ flat (run (floats (turning (inUse p))) (p .half) (inUse p) (p .count) (paired xs))
+      → heldIn (resultIn (p .count)) (runOf p W (after .0) (xs, ys)) ≡ flat (run houseFloats (p .half) (inUse p) (p .count) (paired xs))
   filled-run xs ys lx ly =
       run-lent p (tells .planned) W width (after .0) xs ys lx ly
-      ∙ ap flat (run-agree p (tells .planned) (lentTo p W (after .0)) (turning (inUse p)) filled-turns (paired xs) (p .count) (omega arith))
+      ∙ ap flat (run-agree p (tells .planned) (lentTo p W (after .0)) (turning (inUse p)) filled-turns (paired xs) (p .count) (omega arith) ∙ run-housed (p .half) (inUse p) (p .count) (paired xs))
 
 -- two fillings of one plan, at any widths and in either direction, give the same result of a run
 pub filled-alike : (c d : Direction) (p : Record) (W W′ : ℕ) (b b′ : Slices) (r r′ : Verdict) (a a′ : Slices) → Fills c p W b r a → Fills d p W′ b′ r′ a′ → r ≡ Accepted → r′ ≡ Accepted

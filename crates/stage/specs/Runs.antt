@@ -11,11 +11,10 @@ use Rattle.plan.specs.declared.Record.{Record}
 use Rattle.schedule.specs.Buffers.{Two, driven}
 use Rattle.schedule.specs.Plans.{inUse}
 use Rattle.schedule.specs.Stage.{twiddleTurn}
-use Rattle.turn.specs.Turns.{turnOf, wordsOf}
 use Rattle.twiddle.specs.Places.{place}
 use Rattle.floats.specs.declared.complex.Complex.{Complex}
-use Rattle.floats.specs.Complexes.{cx, cell}
-use Rattle.kernel.specs.Floats.{stageOf}
+use Rattle.floats.specs.Complexes.{cell}
+use Rattle.kernel.specs.Floats.{wordOf, stageOf}
 
 -- the words of stage j's own twiddles, in those of all stages
 abbrev pub ownOf : Record → (tw : List Float) → (j : ℕ) → List Float
@@ -37,9 +36,19 @@ lentTo p W tw j i q = cell tw (twiddleStart (p .half) (p .radices) j + place (p 
 
 -- as filling lends them: the words of the turns that the schedule states
 abbrev pub turning : List ℕ → (j i q : ℕ) → Complex
-turning rs j i q =
-    let w = wordsOf (turnOf (twiddleTurn (stride rs j) (radix rs j) i q)) in
-    cx (w .0) (w .1)
+turning rs j i q = wordOf (twiddleTurn (stride rs j) (radix rs j) i q)
+
+-- two stages that are lent the same for each iteration and number
+abbrev pub Agree : (M r : ℕ) → (ℕ → ℕ → Complex) → (ℕ → ℕ → Complex) → Type 0
+Agree M r lent lent′ = (i q : ℕ) → i < M → 1 ≤ q → q < r → lent i q ≡ lent′ i q
+
+-- all stages of a plan with twiddles
+abbrev pub AgreeAll : Record → (ℕ → ℕ → ℕ → Complex) → (ℕ → ℕ → ℕ → Complex) → Type 0
+AgreeAll p lent lent′ = (j : ℕ) → 1 ≤ j → j < p .count → Agree (p .half / radix (inUse p) j) (radix (inUse p) j) (lent j) (lent′ j)
+
+-- the same words are lent at two widths
+abbrev pub Alike : Record → (W W′ : ℕ) → (tw tw′ : List Float) → Type 0
+Alike p W W′ tw tw′ = AgreeAll p (lentTo p W tw) (lentTo p W′ tw′)
 
 -- ---- what the driver asks for
 

@@ -5,12 +5,12 @@ use mathlib.Core.Bool.{true, false}
 use Rattle.refusal.specs.declared.Refusal.the-variants.{NotHoused}
 use Rattle.refusal.specs.declared.Verdict.the-variants.{Accepted, Refused}
 use Rattle.turn.specs.declared.Turn.{Turn}
-use Rattle.turn.specs.declared.Turn.the-variants.{Zero}
+use Rattle.turn.specs.declared.Turn.the-variants.{General}
 use Rattle.turn.specs.Calls.{part, turnVerdict, turned, Turns}
-use Rattle.turn.specs.Turns.{housed, turnOf}
+use Rattle.turn.specs.Turns.{+0, housed, turnOf}
 use Rattle.turn.proofs.Index.{turn-mod}
 
-pub refused : (t L : ℕ) → housed L ≡ false → Turns t L (record { verdict = Refused NotHoused; turn = Zero })
+pub refused : (t L : ℕ) → housed L ≡ false → Turns t L (record { verdict = Refused NotHoused; turn = General +0 +0 })
 unfolding turned turnVerdict
 refused t L h = record { answer = simp h }
 

@@ -6,24 +6,15 @@ use native.Mathlib.Omega.{arith}
 use native.Mathlib.Decide.{decLe}
 use mathlib.Core.Path.{_≡_, refl, sym, ap, _∙_}
 use mathlib.Core.Logic.{dite}
-use mathlib.Core.Bool.{Bool, true, false}
+use mathlib.Core.Bool.{false}
 use lib.Ieee.{round, ofBits, neg}
 use Rattle.schedule.specs.Stage.{Part}
-use Rattle.turn.specs.declared.Turn.{Turn}
-use Rattle.turn.specs.declared.Turn.the-variants.{Zero, Quarter, Half, ThreeQuarter, General}
+use Rattle.turn.specs.declared.Turn.the-variants.{Zero, Quarter, Half, ThreeQuarter}
 use Rattle.turn.specs.House.{cosines, sines}
-use Rattle.turn.specs.Turns.{indexOf, entryOf, mirrored, plain, exchanged, rounded, numbersAt, quarters, turnAt, turnOf, wordsOf}
+use Rattle.turn.specs.Turns.{bare, indexOf, entryOf, mirrored, plain, exchanged, rounded, numbersAt, quarters, turnAt, turnOf, wordsOf}
 use Rattle.turn.proofs.Lookup.{turn-whole, turn-numbers}
 
 -- ---- which turns are whole quarters
-
--- a turn carries no numbers
-abbrev pub bare : Turn → Bool
-bare Zero = true
-bare Quarter = true
-bare Half = true
-bare ThreeQuarter = true
-bare (General re im) = false
 
 pub quarter-turns : (turnAt 0 ≡ Zero) × (turnAt 1680 ≡ Quarter) × (turnAt 3360 ≡ Half) × (turnAt 5040 ≡ ThreeQuarter)
 unfolding turnAt

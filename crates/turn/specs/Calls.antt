@@ -10,10 +10,10 @@ use Rattle.refusal.specs.declared.Verdict.the-variants.{Accepted, Refused}
 use Rattle.plan.specs.Lists.{isRadix}
 use Rattle.schedule.specs.Stage.{Part}
 use Rattle.turn.specs.declared.Turn.{Turn}
-use Rattle.turn.specs.declared.Turn.the-variants.{Zero}
+use Rattle.turn.specs.declared.Turn.the-variants.{General}
 use Rattle.turn.specs.declared.Turned.{Turned}
 use Rattle.turn.specs.House.{cosines, sines}
-use Rattle.turn.specs.Turns.{housed, turnOf}
+use Rattle.turn.specs.Turns.{+0, housed, turnOf}
 
 -- t of L parts of a circle
 abbrev pub part : (t L : ℕ) → Part
@@ -23,10 +23,10 @@ part t L = record { t = t; L = L }
 unfoldable pub turnVerdict : (L : ℕ) → Verdict
 turnVerdict L = verdict (not (housed L) ⇒ NotHoused ∷ [])
 
--- the turn of an accepted call; of a refused one, a turn by nothing
+-- the turn of an accepted call; of a refused one, two numbers that are 0
 abbrev pub given : Verdict → Turn → Turn
 given Accepted turn = turn
-given (Refused why) turn = Zero
+given (Refused why) turn = General +0 +0
 
 -- the answer to t and L
 unfoldable pub turned : (t L : ℕ) → Turned

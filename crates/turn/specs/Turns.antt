@@ -76,6 +76,14 @@ turnAt index = cond (eqb (index % 1680) 0) (quarters (index / 1680)) (General (n
 unfoldable pub turnOf : Part → Turn
 turnOf a = turnAt (indexOf a)
 
+-- a turn carries no numbers
+abbrev pub bare : Turn → Bool
+bare Zero = true
+bare Quarter = true
+bare Half = true
+bare ThreeQuarter = true
+bare (General re im) = false
+
 -- ---- its words
 
 -- the two words of a turn: filled as a twiddle, whole quarters are 1, -1 and +0

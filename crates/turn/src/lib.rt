@@ -18,7 +18,7 @@ pub enum Turn {
     General(f32, f32),
 }
 
-// A turn, or the refusal of it with `Turn::Zero` beside it.
+// A turn, or the refusal of it with two numbers beside it that are 0.
 pub struct Turned {
     pub verdict: Verdict,
     pub turn: Turn,
@@ -31,7 +31,7 @@ pub fn turn_of(t: u32, l: u32) -> Turned
     if !is_housed(l as usize) {
         return Turned {
             verdict: Verdict::Refused(Refusal::NotHoused),
-            turn: Turn::Zero,
+            turn: Turn::General(0.0, 0.0),
         };
     }
     let c = cosines();

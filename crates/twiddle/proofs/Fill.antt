@@ -7,9 +7,9 @@ use native.Mathlib.Omega.{arith}
 use native.Mathlib.Decide.{ℕ-discrete}
 use lib.ListN.{length}
 use Rattle.twiddle.specs.Places.{place, iterationAt, numberAt}
-use Rattle.twiddle.specs.Words.{packed, putPair, putPairs}
+use Rattle.twiddle.specs.Words.{packed, putPair, putPairs, At}
 use Rattle.twiddle.proofs.Places.{stands, found, place-one}
-use Rattle.twiddle.proofs.Words.{At, length-puts, pairs-at, pairs-all, put-here, put-still}
+use Rattle.twiddle.proofs.Words.{length-puts, pairs-at, pairs-all, put-here, put-still}
 
 -- the pairs of the first n iterations are where they should stand
 abbrev pub Placed : {A : Type 0} → A → (M r W : ℕ) → (ℕ → ℕ → A × A) → List A → ℕ → Type 0

@@ -9,7 +9,7 @@ use lib.Dec.{ltb}
 use lib.Arith.{digits-div, digits-mod, digits-lt}
 use borrow.Author.Tests.{lt-ltb, le-ltb, ltb-true, ltb-false}
 use Rattle.schedule.proofs.Cells.{pos-right}
-use Rattle.twiddle.specs.Places.{inLanes, place, iterationAt, numberAt}
+use Rattle.twiddle.specs.Places.{inLanes, place, iterationAt, numberAt, Stands, Found}
 
 -- whether a number is below another
 below-or-not : {P : Type 0} (i n : ℕ) → (i < n → P) → (n ≤ i → P) → P
@@ -31,19 +31,6 @@ lane-place M r W i k l = simp (lt-ltb i (inLanes M W) l) (omega arith)
 pub lone-place : (M r W i k : ℕ) → inLanes M W ≤ i → place M r W i k ≡ i * (r - 1) + (k - 1)
 unfolding place
 lone-place M r W i k l = simp (le-ltb i (inLanes M W) l)
-
--- place p is below M * (r - 1), and tells that twiddle k of iteration i stands there
-pub record Stands (M r W i k p : ℕ) : Type 0 where
-  pub inside : p < M * (r - 1)
-  pub iteration : iterationAt M r W p ≡ i
-  pub number : numberAt M r W p ≡ k
-
--- i and k are an iteration and a number, and tell that they stand at place p
-pub record Found (M r W i k p : ℕ) : Type 0 where
-  pub early : i < M
-  pub first : 1 ≤ k
-  pub last : k < r
-  pub here : place M r W i k ≡ p
 
 module _ (M r W : ℕ) (width : 0 < W) where
   lanes-few : inLanes M W * (r - 1) ≤ M * (r - 1)

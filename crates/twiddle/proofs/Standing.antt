@@ -13,10 +13,11 @@ use Rattle.plan.proofs.Counts.{start-next}
 use Rattle.schedule.specs.Plans.{inUse}
 use Rattle.twiddle.specs.Places.{place}
 use Rattle.twiddle.specs.Twiddles.{twiddle, stageWords, stagesWords}
+use Rattle.twiddle.specs.Words.{At}
 use Rattle.twiddle.proofs.Counts.{start-up}
 use Rattle.twiddle.proofs.Fill.{packed-at}
 use Rattle.twiddle.proofs.Places.{stands}
-use Rattle.twiddle.proofs.Words.{At, length-packed}
+use Rattle.twiddle.proofs.Words.{length-packed}
 
 -- ---- pairs in joined lists
 

@@ -17,18 +17,19 @@ use Rattle.plan.specs.declared.Record.{Record}
 use Rattle.schedule.specs.Plans.{inUse}
 use Rattle.schedule.specs.Stage.{twiddleTurn}
 use Rattle.turn.specs.Calls.{part}
-use Rattle.turn.specs.Turns.{housed, turnOf, wordsOf}
+use Rattle.turn.specs.Turns.{bare, housed, turnOf, wordsOf}
 use Rattle.turn.proofs.Index.{index-below}
-use Rattle.turn.proofs.Theorems.{bare, other-turns}
+use Rattle.turn.proofs.Theorems.{other-turns}
 use Rattle.twiddle.specs.Calls.{Slices, filled, Fills}
-use Rattle.twiddle.specs.Places.{place, iterationAt, numberAt}
+use Rattle.twiddle.specs.Places.{place, iterationAt, numberAt, Stands, Found}
 use Rattle.twiddle.specs.Twiddles.{directed, twiddle, endTwiddle, endWords}
+use Rattle.twiddle.specs.Words.{At}
 use Rattle.twiddle.specs.declared.inner.ends.Direction.{Direction}
 use Rattle.twiddle.proofs.Ends.{end-inside, end-quarter}
-use Rattle.twiddle.proofs.Places.{Stands, Found, stands, found}
+use Rattle.twiddle.proofs.Places.{stands, found}
 use Rattle.twiddle.proofs.Standing.{twiddle-at, use-start}
 use Rattle.twiddle.proofs.Verdicts.{Taken, taken, width-bounds}
-use Rattle.twiddle.proofs.Words.{At, at-same, pairs-at}
+use Rattle.twiddle.proofs.Words.{at-same, pairs-at}
 
 -- ---- places: M iterations of radix r, any width
 

@@ -8,16 +8,11 @@ use native.Mathlib.Omega.{arith}
 use native.Mathlib.Decide.{ℕ-discrete}
 use lib.ListN.{length, getD, set, length-set}
 use lib.Seq.{getD-set-same, getD-set-other, ext-getD}
-use Rattle.twiddle.specs.Words.{pairs, packed, putPair, putPairs}
+use Rattle.twiddle.specs.Words.{pairs, packed, putPair, putPairs, At}
 
 module _ {A : Type 0} (d : A) where
-  -- the pair w is at place p
-  pub record At (ys : List A) (p : ℕ) (w : A × A) : Type 0 where
-    pub first : getD ys (2 * p) d ≡ w .0
-    pub second : getD ys (2 * p + 1) d ≡ w .1
-
   -- lists with the same pair have the same words
-  pub at-same : (xs ys : List A) (p q : ℕ) (w : A × A) → At xs p w → At ys q w → (e : ℕ) → e < 2 → getD xs (2 * p + e) d ≡ getD ys (2 * q + e) d
+  pub at-same : (xs ys : List A) (p q : ℕ) (w : A × A) → At d xs p w → At d ys q w → (e : ℕ) → e < 2 → getD xs (2 * p + e) d ≡ getD ys (2 * q + e) d
   at-same xs ys p q w a b zero l =
       ap (λ (n : ℕ). getD xs n d) {x = 2 * p + 0} {y = 2 * p} (omega arith) ∙ a .first ∙ sym (b .first) ∙ ap (λ (n : ℕ). getD ys n d) {x = 2 * q} {y = 2 * q + 0} (omega arith)
   at-same xs ys p q w a b (suc zero) l = a .second ∙ sym (b .second)
@@ -34,7 +29,7 @@ module _ {A : Type 0} (d : A) where
   unfolding packed
   length-packed M r W f = length-pairs (M * (r - 1)) 0 _
 
-  pub pairs-at : (k n : ℕ) (f : ℕ → A × A) (p : ℕ) → p < k → At (pairs k n f) p (f (n + p))
+  pub pairs-at : (k n : ℕ) (f : ℕ → A × A) (p : ℕ) → p < k → At d (pairs k n f) p (f (n + p))
   unfolding pairs
   pairs-at zero n f p l = absurd (not-suc-le-zero l)
   pairs-at (suc k) n f zero l =
@@ -52,7 +47,7 @@ module _ {A : Type 0} (d : A) where
       })
 
   -- a list with the same pairs is the same
-  pub pairs-all : (ys : List A) (k n : ℕ) (f : ℕ → A × A) → length ys ≡ 2 * k → ((p : ℕ) → p < k → At ys p (f (n + p))) → ys ≡ pairs k n f
+  pub pairs-all : (ys : List A) (k n : ℕ) (f : ℕ → A × A) → length ys ≡ 2 * k → ((p : ℕ) → p < k → At d ys p (f (n + p))) → ys ≡ pairs k n f
   pairs-all ys k n f e all = ext-getD d ys (pairs k n f) (e ∙ sym (length-pairs k n f)) (λ q l. each q (rw e at l))
     where
       each : (q : ℕ) → q < 2 * k → getD ys q d ≡ getD (pairs k n f) q d
@@ -79,7 +74,7 @@ module _ {A : Type 0} (d : A) where
   length-put ys p w = length-set (set ys (2 * p) (w .0)) (2 * p + 1) (w .1) ∙ length-set ys (2 * p) (w .0)
 
   -- puts it in place
-  pub put-here : (ys : List A) (p : ℕ) (w : A × A) → 2 * p + 1 < length ys → At (putPair ys p w) p w
+  pub put-here : (ys : List A) (p : ℕ) (w : A × A) → 2 * p + 1 < length ys → At d (putPair ys p w) p w
   unfolding putPair
   put-here ys p w l =
       record {
@@ -90,7 +85,7 @@ module _ {A : Type 0} (d : A) where
       }
 
   -- and keeps every other in place
-  pub put-still : (ys : List A) (p q : ℕ) (w v : A × A) → (q ≡ p → ⊥) → At ys q v → At (putPair ys p w) q v
+  pub put-still : (ys : List A) (p q : ℕ) (w v : A × A) → (q ≡ p → ⊥) → At d ys q v → At d (putPair ys p w) q v
   unfolding putPair
   put-still ys p q w v other a =
       record {
@@ -136,13 +131,13 @@ module _ {A : Type 0} (d : A) where
       pairs-all (putPairs 0 1 f ys k) k 1 f (length-puts 0 1 f ys k ∙ e)
       (λ p l. let same : 1 + p ≡ suc p = omega arith in rw same (row k (omega arith) p l))
     where
-      row : (n : ℕ) → n ≤ k → (p : ℕ) → p < n → At (putPairs 0 1 f ys n) p (f (suc p))
+      row : (n : ℕ) → n ≤ k → (p : ℕ) → p < n → At d (putPairs 0 1 f ys n) p (f (suc p))
       row zero m p l = absurd (not-suc-le-zero l)
       row (suc n) m p l = pick (ℕ-discrete p n) (row n (omega arith) p)
         where
           here : 0 + n * 1 ≡ n
           here = omega arith
 
-          pick : Dec (p ≡ n) → (p < n → At (putPairs 0 1 f ys n) p (f (suc p))) → At (putPair (putPairs 0 1 f ys n) (0 + n * 1) (f (suc n))) p (f (suc p))
+          pick : Dec (p ≡ n) → (p < n → At d (putPairs 0 1 f ys n) p (f (suc p))) → At d (putPair (putPairs 0 1 f ys n) (0 + n * 1) (f (suc n))) p (f (suc p))
           pick (yes g) t = rw (here, g) (put-here (putPairs 0 1 f ys n) n (f (suc n)) (omega (arith, length-puts 0 1 f ys n)))
           pick (no g) t = rw here (put-still (putPairs 0 1 f ys n) n p (f (suc n)) (f (suc p)) g (t (omega arith)))

@@ -1,5 +1,6 @@
 -- Where a twiddle stands among those of its stage: M iterations of radix r, packed for width W. Assumes nothing.
-use Prim.Native.Nat.{ℕ, suc, _+_, _-_, _*_, _/_, _%_}
+use Prim.Native.Nat.{ℕ, suc, _+_, _-_, _*_, _/_, _%_, _<_, _≤_}
+use mathlib.Core.Path.{_≡_}
 use mathlib.Core.Bool.{cond}
 use lib.Dec.{ltb}
 
@@ -27,3 +28,16 @@ numberAt M r W p =
     cond (ltb p (inLanes M W * (r - 1)))
     (suc (p % (W * (r - 1)) / W))
     (suc (p % (r - 1)))
+
+-- place p is below M * (r - 1), and tells that twiddle k of iteration i stands there
+pub record Stands (M r W i k p : ℕ) : Type 0 where
+  pub inside : p < M * (r - 1)
+  pub iteration : iterationAt M r W p ≡ i
+  pub number : numberAt M r W p ≡ k
+
+-- i and k are an iteration and a number, and tell that they stand at place p
+pub record Found (M r W i k p : ℕ) : Type 0 where
+  pub early : i < M
+  pub first : 1 ≤ k
+  pub last : k < r
+  pub here : place M r W i k ≡ p

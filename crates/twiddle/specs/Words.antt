@@ -1,7 +1,8 @@
 -- Pairs of words in a slice: in a row, packed, and written one by one. Assumes nothing.
 use Prim.Native.Nat.{ℕ, zero, suc, _+_, _-_, _*_}
+use mathlib.Core.Path.{_≡_}
 use mathlib.Core.List.{List, [], _∷_}
-use lib.ListN.{set}
+use lib.ListN.{getD, set}
 use Rattle.twiddle.specs.Places.{iterationAt, numberAt}
 
 module _ {A : Type 0} where
@@ -22,3 +23,8 @@ module _ {A : Type 0} where
   unfoldable pub putPairs : (first apart : ℕ) → (ℕ → A × A) → List A → (n : ℕ) → List A
   putPairs first apart f ys zero = ys
   putPairs first apart f ys (suc k) = putPair (putPairs first apart f ys k) (first + k * apart) (f (suc k))
+
+-- the pair w is at place p, where d stands past the end
+pub record At {A : Type 0} (d : A) (ys : List A) (p : ℕ) (w : A × A) : Type 0 where
+  pub first : getD ys (2 * p) d ≡ w .0
+  pub second : getD ys (2 * p + 1) d ≡ w .1

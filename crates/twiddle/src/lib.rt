@@ -9,15 +9,37 @@ ghost use Rattle.twiddle.specs.declared.inner.ends.Direction.the-variant
 ghost use Rattle.twiddle.specs.Calls.{Fills};
 
 // The twiddles of a plan for the forward transform, packed for a width.
-pub fn fill_forward(plan: Record, width: usize, stage: &mut [f32], end: &mut [f32]) -> Verdict
-    ensures { λ r. ⌜ Fills Forward plan width (now (stage .entry), now (end .entry)) r (now (stage .exit), now (end .exit)) ⌝ }
+pub fn fill_forward(
+    plan: Record,
+    width: usize,
+    stage_twiddles: &mut [f32],
+    end_twiddles: &mut [f32],
+) -> Verdict
+    ensures { λ r. ⌜ Fills Forward plan width (now («stage_twiddles» .entry), now («end_twiddles» .entry)) r (now («stage_twiddles» .exit), now («end_twiddles» .exit)) ⌝ }
 {
-    fill(Direction::Forward, plan, width, stage, end)
+    fill(
+        Direction::Forward,
+        plan,
+        width,
+        stage_twiddles,
+        end_twiddles,
+    )
 }
 
 // The same for the inverse transform.
-pub fn fill_inverse(plan: Record, width: usize, stage: &mut [f32], end: &mut [f32]) -> Verdict
-    ensures { λ r. ⌜ Fills Inverse plan width (now (stage .entry), now (end .entry)) r (now (stage .exit), now (end .exit)) ⌝ }
+pub fn fill_inverse(
+    plan: Record,
+    width: usize,
+    stage_twiddles: &mut [f32],
+    end_twiddles: &mut [f32],
+) -> Verdict
+    ensures { λ r. ⌜ Fills Inverse plan width (now («stage_twiddles» .entry), now («end_twiddles» .entry)) r (now («stage_twiddles» .exit), now («end_twiddles» .exit)) ⌝ }
 {
-    fill(Direction::Inverse, plan, width, stage, end)
+    fill(
+        Direction::Inverse,
+        plan,
+        width,
+        stage_twiddles,
+        end_twiddles,
+    )
 }

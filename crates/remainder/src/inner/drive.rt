@@ -1,11 +1,9 @@
 // All stages of a run, from one buffer to the other and back.
 use crate::inner::stage::work;
-use plan::Buffer;
 use plan::Record;
 ghost use mathlib.Core.Path.{_≡_};
-ghost use Prim.Native.Nat.{_≤_};
-ghost use lib.ListN.{length, take};
-ghost use Rattle.schedule.specs.Buffers.{alternated, heldIn};
+ghost use lib.ListN.{length};
+ghost use Rattle.schedule.specs.Buffers.{alternated};
 ghost use Rattle.remainder.specs.Calls.{stageOf, runOf, Drivable};
 
 // The stages of an accepted plan in turn, each written to the other buffer.
@@ -47,22 +45,5 @@ pub fn all(plan: Record, m: u64, w: u64, data: &mut [u32], scratch: &mut [u32])
     drive(plan, m, w, data, scratch);
     if plan.count == 1 {
         copy(scratch, data);
-    }
-}
-
-// The first h cells of the buffer so named.
-pub fn part<'a>(
-    data: &'a mut [u32],
-    scratch: &'a mut [u32],
-    h: usize,
-    which: Buffer,
-) -> &'a mut [u32]
-    requires { ⌜ (h ≤ length (now «data»)) × (h ≤ length (now scratch)) ⌝ }
-    ensures { λ r. ⌜ now r ≡ take h (heldIn which (now («data» .entry), now (scratch .entry))) ⌝ }
-    ensures { λ r. ⌜ r .ptr ≡ heldIn which («data» .entry .ptr, scratch .entry .ptr) ⌝ }
-{
-    match which {
-        Buffer::Data => &mut data[..h],
-        Buffer::Scratchpad => &mut scratch[..h],
     }
 }

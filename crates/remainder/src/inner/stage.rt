@@ -10,7 +10,8 @@ ghost use lib.Dec.{ltb};
 ghost use lib.ListN.{length, getD, set};
 ghost use Rattle.schedule.specs.Stage.{putColumn, putColumns};
 ghost use Rattle.remainder.specs.Calls.{stageOf, Workable};
-ghost use Rattle.remainder.specs.Rows.{below, rowOf, twiddledRow, sumTo, storeFrom, stored, value, stepped, Modulus, Under, Storable, Shape, Ready};
+ghost use Rattle.remainder.specs.Residues.{Under};
+ghost use Rattle.remainder.specs.Rows.{below, rowOf, twiddledRow, sumTo, storeFrom, stored, value, stepped, Modulus, Storable, Shape, Ready};
 
 // Cell q of an iteration, 0 past the radix.
 fn cell(src: &[u32], i: usize, apart: usize, r: usize, q: usize) -> u64

@@ -14,17 +14,17 @@ pub fn fill(
     direction: Direction,
     plan: Record,
     width: usize,
-    stage: &mut [f32],
-    end: &mut [f32],
+    stage_twiddles: &mut [f32],
+    end_twiddles: &mut [f32],
 ) -> Verdict
-    ensures { λ r. ⌜ Fills direction plan width (now (stage .entry), now (end .entry)) r (now (stage .exit), now (end .exit)) ⌝ }
+    ensures { λ r. ⌜ Fills direction plan width (now («stage_twiddles» .entry), now («end_twiddles» .entry)) r (now («stage_twiddles» .exit), now («end_twiddles» .exit)) ⌝ }
 {
-    match lent(plan, width, stage.len(), end.len()) {
+    match lent(plan, width, stage_twiddles.len(), end_twiddles.len()) {
         Verdict::Accepted => {
             let c = cosines();
             let s = sines();
-            stages(&c, &s, plan, width, stage);
-            ends(&c, &s, direction, plan.n, end);
+            stages(&c, &s, plan, width, stage_twiddles);
+            ends(&c, &s, direction, plan.n, end_twiddles);
             Verdict::Accepted
         }
         Verdict::Refused(why) => Verdict::Refused(why),

@@ -5,7 +5,6 @@ use Prim.Native.Nat.{ℕ, _+_, _-_, _*_, _≤_, _<_}
 use native.Mathlib.Omega.{arith}
 use borrow.Author.Needs.{needs}
 use lib.ListN.{getD, length, length-set}
-use Rattle.schedule.specs.Stage.{read}
 use mathlib.Core.Bool.{false}
 use Rattle.floats.specs.declared.complex.Complex.{Complex}
 use Rattle.floats.specs.Complexes.{blank, cell}
@@ -26,7 +25,7 @@ get-requires : tie.Need-get-requires Inv-loop μ-loop
 get-requires c κs = omega (arith, cell-room (c .before .before .args .i) 0 (c .before .before .args .m) (c .before .before .args .r) _ (omega arith) (omega arith) (c .before .before .pre .0 .source))
 
 loop-holds : tie.Need-loop-holds Inv-loop μ-loop
-unfolding read
+unfolding readOf
 loop-holds c = (omega arith, omega arith, refl, λ lent same k l. let e : k ≡ 0 = omega arith in rw e (c .get .ensures))
 
 mul-get : tie.Need-mul-get Inv-loop μ-loop

@@ -27,14 +27,14 @@ work-requires c κs =
     let s = c .before .before .before .before .before .before .before in
     let a = s .args in
     let l = c .before .before .before .before .loop in
-    even-workable (a .plan) (a .m) (a .w) (a .«data» .now) (a .scratch .now) _ (s .pre) (l .k) (c .before .before .before .loop-test .taken) (c .before .before .if1 .taken) (l .«data») (length (l .scratch)) (l .inv .1 .0) (ap length (l .inv .1 .1) ∙ both-lengths (a .plan) (a .m) (a .w) (a .«data» .now) (a .scratch .now) _ (s .pre) (s .pre .wide) (l .k) .1)
+    even-workable (a .plan) (a .m) (a .w) (a .«data» .now) (a .scratch .now) _ (s .pre) (l .k) (c .before .before .before .loop-test .taken) (c .before .before .if1 .taken) (l .«data») (length (l .scratch)) (l .inv .1 .0) (ap length (l .inv .1 .1) ∙ both-lengths (a .plan) (a .m) (a .w) (a .«data» .now) (a .scratch .now) (s .pre .lent .long) (s .pre .wide) (l .k) .1)
 
 work-requires-2 : tie.Need-work-requires-2 Inv-loop μ-loop
 work-requires-2 c κs =
     let s = c .before .before .before .before .before .before .before in
     let a = s .args in
     let l = c .before .before .before .before .loop in
-    odd-workable (a .plan) (a .m) (a .w) (a .«data» .now) (a .scratch .now) _ (s .pre) (l .k) (c .before .before .before .loop-test .taken) (c .before .before .if1 .left) (l .scratch) (length (l .«data»)) (l .inv .1 .1) (ap length (l .inv .1 .0) ∙ both-lengths (a .plan) (a .m) (a .w) (a .«data» .now) (a .scratch .now) _ (s .pre) (s .pre .wide) (l .k) .0)
+    odd-workable (a .plan) (a .m) (a .w) (a .«data» .now) (a .scratch .now) _ (s .pre) (l .k) (c .before .before .before .loop-test .taken) (c .before .before .if1 .left) (l .scratch) (length (l .«data»)) (l .inv .1 .1) (ap length (l .inv .1 .0) ∙ both-lengths (a .plan) (a .m) (a .w) (a .«data» .now) (a .scratch .now) (s .pre .lent .long) (s .pre .wide) (l .k) .0)
 
 add-k : tie.Need-add-k Inv-loop μ-loop
 add-k c = search needs
@@ -59,14 +59,14 @@ same-length c =
     let s = c .before .before .before .before in
     let a = s .args in
     let l = c .before .loop in
-    ap length (l .inv .1 .0) ∙ both-lengths (a .plan) (a .m) (a .w) (a .«data» .now) (a .scratch .now) _ (s .pre) (s .pre .wide) (l .k) .0 ∙ sym (s .pre .lent .long)
+    ap length (l .inv .1 .0) ∙ both-lengths (a .plan) (a .m) (a .w) (a .«data» .now) (a .scratch .now) (s .pre .lent .long) (s .pre .wide) (l .k) .0 ∙ sym (s .pre .lent .long)
 
 same-length-2 : tie.Need-same-length-2 Inv-loop μ-loop
 same-length-2 c =
     let s = c .before .before .before .before in
     let a = s .args in
     let l = c .before .loop in
-    ap length (l .inv .1 .1) ∙ both-lengths (a .plan) (a .m) (a .w) (a .«data» .now) (a .scratch .now) _ (s .pre) (s .pre .wide) (l .k) .1 ∙ sym (s .pre .wide)
+    ap length (l .inv .1 .1) ∙ both-lengths (a .plan) (a .m) (a .w) (a .«data» .now) (a .scratch .now) (s .pre .lent .long) (s .pre .wide) (l .k) .1 ∙ sym (s .pre .wide)
 
 returns : tie.Need-returns Inv-loop μ-loop
 returns c =

@@ -59,12 +59,12 @@ returns c =
     let a = c .before .before .before .before .before .before .before .before .before .before .before .before .before .before .before .before .before .before .before .args in
     let told = c .before .before .before .before .before .before .before .before .before .before .before .before .before .before .before .before .lent .ensures in
     let accepted = c .before .before .before .before .before .before .before .before .before .before .before .before .before .before .enum-told .given .1 in
-    fill-accepted (a .direction) (a .plan) (a .width) (a .stage .now, a .end .now) _ told accepted _ _ (c .before .before .before .before .before .before .before .before .stages .ensures) (c .before .before .ends .ensures)
+    fill-accepted (a .direction) (a .plan) (a .width) (a .stage-twiddles .now, a .end-twiddles .now) _ told accepted _ _ (c .before .before .before .before .before .before .before .before .stages .ensures) (c .before .before .ends .ensures)
 
 returns-2 : tie.Need-returns-2
 returns-2 c =
     let a = c .before .before .before .before .before .before .args in
-    fill-refused (a .direction) (a .plan) (a .width) (a .stage .now, a .end .now) _ (c .before .before .before .lent .ensures) _ (c .before .why .given .1)
+    fill-refused (a .direction) (a .plan) (a .width) (a .stage-twiddles .now, a .end-twiddles .now) _ (c .before .before .before .lent .ensures) _ (c .before .why .given .1)
 
 pub fill-spec : {M : Type 1} → statement M
 fill-spec =
