@@ -4,18 +4,18 @@ use native.Mathlib.Nat.{not-suc-le-zero}
 use native.Mathlib.Omega.{arith}
 use native.Mathlib.Decide.{ℕ-discrete, decLe}
 use mathlib.Core.Logic.{_≢_}
-use mathlib.Core.Path.{_≡_, refl, sym, ap, ap₂, _∙_}
+use mathlib.Core.Path.{_≡_, refl, sym, ap, _∙_}
 use mathlib.Core.List.{List}
 use lib.Ieee.{Float, nan}
 use lib.ListN.{length, getD, set}
 use lib.Seq.{ext-getD, getD-set-same, getD-set-other}
 use borrow.Author.Tests.{lt-ltb, le-ltb, eq-eqb, ne-eqb}
 use Rattle.schedule.specs.Stage.{tabulate}
-use Rattle.schedule.proofs.Cells.{length-tabulate, getD-tabulate, tabulate-same}
+use Rattle.schedule.proofs.Cells.{length-tabulate, getD-tabulate}
 use Rattle.floats.specs.Complexes.{blank, conjugate, cell, putCell, paired, flat}
 use Rattle.floats.specs.declared.complex.Complex.{Complex}
 use Rattle.floats.proofs.Flat.{get-paired, length-paired, flat-paired, length-flat, length-put, get-put, get-other}
-use Rattle.ends.specs.Ends.{+0, fftNear, fftFar, Steps, endCell, endLent, ended, fftSteps, postprocess-fft, conjugated, zeros}
+use Rattle.ends.specs.Ends.{+0, Steps, endCell, endLent, ended, conjugated, zeros}
 use Rattle.ends.specs.Parts.{Stepped}
 
 -- words whose cells are f 0, f 1, .. are these written out
@@ -47,7 +47,7 @@ module _ (s : Steps) (h : ℕ) (c t : ℕ → Complex) where
   end-last l = simp (ne-eqb h 0 (λ e. omega arith), eq-eqb h h refl)
 
   module _ (j : ℕ) (some : 0 < j) where
-    end-near : 2 * j < h → endCell s h c t j ≡ s .near (c j) (c (h - j)) (t j)
+    pub end-near : 2 * j < h → endCell s h c t j ≡ s .near (c j) (c (h - j)) (t j)
     unfolding endCell
     end-near l = simp (ne-eqb j 0 (λ e. omega arith), ne-eqb j h (λ e. omega arith), lt-ltb (2 * j) h l)
 
@@ -55,7 +55,7 @@ module _ (s : Steps) (h : ℕ) (c t : ℕ → Complex) where
     unfolding endCell
     end-centre l = simp (ne-eqb j 0 (λ e. omega arith), ne-eqb j h (λ e. omega arith), le-ltb (2 * j) h (omega arith), eq-eqb (2 * j) h l)
 
-    end-far : 2 * j < h → endCell s h c t (h - j) ≡ s .far (c j) (c (h - j)) (t j)
+    pub end-far : 2 * j < h → endCell s h c t (h - j) ≡ s .far (c j) (c (h - j)) (t j)
     unfolding endCell
     end-far l =
         let back : h - (h - j) ≡ j = omega arith in
@@ -83,59 +83,23 @@ module _ (s : Steps) (h : ℕ) (tw xs : List Float) where
     both-other : (n : ℕ) → n ≢ i → n ≢ j → cell both n ≡ cell ys n
     both-other n a b = get-other (putCell ys i y) j z n b ∙ get-other ys i y n a
 
-  pub stepped-first : 0 < h → length xs ≡ 2 * (h + 1) → (ys : List Float) (y z : Complex) → y ≡ s .first (cell xs 0) (cell xs h) → z ≡ s .last (cell xs 0) (cell xs h)
-      → ys ≡ putCell (putCell xs 0 y) h z → Stepped s h tw xs ys 1
-  stepped-first l size ys y z ey ez e =
-      let l0 : 1 < length xs = omega arith in
-      let lh : 2 * h + 1 < length xs = omega arith in
+  pub stepped-first : 0 < h → (os : List Float) → length os ≡ 2 * (h + 1) → (ys : List Float) (y z : Complex) → y ≡ s .first (cell xs 0) (cell xs h) → z ≡ s .last (cell xs 0) (cell xs h)
+      → ys ≡ putCell (putCell os 0 y) h z → Stepped s h tw xs ys 1
+  stepped-first l os size ys y z ey ez e =
+      let l0 : 1 < length os = omega arith in
+      let lh : 2 * h + 1 < length os = omega arith in
       let ne : 0 ≢ h = λ q. omega arith in
       rw e
       (record {
         some = omega arith;
-        size = both-size xs 0 h y z l0 lh ne ∙ size;
-        first = both-first xs 0 h y z l0 lh ne ∙ ey ∙ sym (end-first s h (cell xs) (endLent tw));
-        last = both-second xs 0 h y z l0 lh ne ∙ ez ∙ sym (end-last s h (cell xs) (endLent tw) l);
+        size = both-size os 0 h y z l0 lh ne ∙ size;
+        first = both-first os 0 h y z l0 lh ne ∙ ey ∙ sym (end-first s h (cell xs) (endLent tw));
+        last = both-second os 0 h y z l0 lh ne ∙ ez ∙ sym (end-last s h (cell xs) (endLent tw) l);
         near = λ j a b. absurd (omega arith);
         far = λ j a b. absurd (omega arith);
-        kept = λ j a b. both-other xs 0 h y z l0 lh ne j (λ q. omega arith) (λ q. omega arith);
       })
 
   module _ (ys : List Float) (k : ℕ) (p : Stepped s h tw xs ys k) where
-    -- a pair more
-    pub stepped-pair : 2 * k < h → (ys′ : List Float) (y z : Complex) → y ≡ s .near (cell ys k) (cell ys (h - k)) (endLent tw k)
-        → z ≡ s .far (cell ys k) (cell ys (h - k)) (endLent tw k) → ys′ ≡ putCell (putCell ys k y) (h - k) z → Stepped s h tw xs ys′ (k + 1)
-    stepped-pair l ys′ y z ey ez e =
-        let lk : 2 * k + 1 < length ys = omega (arith, p .size) in
-        let lh : 2 * (h - k) + 1 < length ys = omega (arith, p .size) in
-        let ne : k ≢ h - k = λ q. omega arith in
-        let a : cell ys k ≡ cell xs k = p .kept k (omega arith) (omega arith) in
-        let b : cell ys (h - k) ≡ cell xs (h - k) = p .kept (h - k) (omega arith) (omega arith) in
-        let near : y ≡ E k = ey ∙ rw (a, b) (sym (end-near s h (cell xs) (endLent tw) k (p .some) l)) in
-        let far : z ≡ E (h - k) = ez ∙ rw (a, b) (sym (end-far s h (cell xs) (endLent tw) k (p .some) l)) in
-        let other = both-other ys k (h - k) y z lk lh ne in
-        rw e
-        (record {
-          some = omega arith;
-          size = both-size ys k (h - k) y z lk lh ne ∙ p .size;
-          first = other 0 (λ q. omega (arith, p .some)) (λ q. omega arith) ∙ p .first;
-          last = other h (λ q. omega arith) (λ q. omega (arith, p .some)) ∙ p .last;
-          near = λ j u v. pick j u v (ℕ-discrete j k) near;
-          far = λ j u v. pick-far j u v (ℕ-discrete j k) far;
-          kept = λ j u v. other j (λ q. omega arith) (λ q. omega arith) ∙ p .kept j (omega arith) (omega arith);
-        })
-      where
-        pick : (j : ℕ) → 0 < j → j < k + 1 → Dec (j ≡ k) → y ≡ E k → cell (putCell (putCell ys k y) (h - k) z) j ≡ E j
-        pick j u v (yes q) near =
-            rw q (both-first ys k (h - k) y z (omega (arith, p .size)) (omega (arith, p .size)) (λ r. omega arith) ∙ near)
-        pick j u v (no q) near =
-            both-other ys k (h - k) y z (omega (arith, p .size)) (omega (arith, p .size)) (λ r. omega arith) j q (λ r. omega arith) ∙ p .near j u (omega (arith, q))
-
-        pick-far : (j : ℕ) → 0 < j → j < k + 1 → Dec (j ≡ k) → z ≡ E (h - k) → cell (putCell (putCell ys k y) (h - k) z) (h - j) ≡ E (h - j)
-        pick-far j u v (yes q) far =
-            rw q (both-second ys k (h - k) y z (omega (arith, p .size)) (omega (arith, p .size)) (λ r. omega arith) ∙ far)
-        pick-far j u v (no q) far =
-            both-other ys k (h - k) y z (omega (arith, p .size)) (omega (arith, p .size)) (λ r. omega arith) (h - j) (λ r. omega arith) (λ r. q (omega arith)) ∙ p .far j u (omega (arith, q))
-
     -- when no pair is left, cell k is the only one that may be
     cells-done : h ≤ 2 * k → (ys′ : List Float) → length ys′ ≡ length ys → ((j : ℕ) → j ≢ k → cell ys′ j ≡ cell ys j) → (2 * k ≡ h → cell ys′ k ≡ E k) → (2 * k ≢ h → cell ys′ k ≡ cell ys k)
         → (j : ℕ) → j < h + 1 → cell ys′ j ≡ E j
@@ -162,11 +126,10 @@ module _ (s : Steps) (h : ℕ) (tw xs : List Float) where
             rw v (centre u)
 
     -- the centre is the last
-    pub stepped-centre : 2 * k ≡ h → (ys′ : List Float) (y : Complex) → y ≡ s .centre (cell ys k) → ys′ ≡ putCell ys k y → ys′ ≡ ended s h tw xs
+    pub stepped-centre : 2 * k ≡ h → (ys′ : List Float) (y : Complex) → y ≡ s .centre (cell xs k) → ys′ ≡ putCell ys k y → ys′ ≡ ended s h tw xs
     unfolding ended
     stepped-centre l ys′ y ey e =
-        let a : cell ys k ≡ cell xs k = p .kept k (omega arith) (omega arith) in
-        let made : y ≡ E k = ey ∙ rw a (sym (end-centre s h (cell xs) (endLent tw) k (p .some) l)) in
+        let made : y ≡ E k = ey ∙ sym (end-centre s h (cell xs) (endLent tw) k (p .some) l) in
         let size : length (putCell ys k y) ≡ length ys = length-put ys k y in
         let put : cell (putCell ys k y) k ≡ y = get-put ys k y (omega (arith, p .size)) in
         rw e
@@ -177,47 +140,6 @@ module _ (s : Steps) (h : ℕ) (tw xs : List Float) where
     pub stepped-all : h ≤ 2 * k → 2 * k ≢ h → ys ≡ ended s h tw xs
     unfolding ended
     stepped-all l n = flat-cells (h + 1) E ys (p .size) (cells-done l ys refl (λ j m. refl) (λ u. absurd (n u)) (λ u. refl))
-
--- forward the steps read the first h cells alone
-module _ (h : ℕ) (tw xs ys : List Float) (some : 0 < h) (same : (j : ℕ) → j < h → cell xs j ≡ cell ys j) where
-  -- cell j afterwards, of either list
-  abbrev made : List Float → ℕ → Complex
-  made zs j = endCell fftSteps h (cell zs) (endLent tw) j
-
-  pair : (k : ℕ) → 0 < k → 2 * k < h → (f : (a b t : Complex) → Complex) → f (cell xs k) (cell xs (h - k)) (endLent tw k) ≡ f (cell ys k) (cell ys (h - k)) (endLent tw k)
-  pair k a b f = ap₂ (λ (u v : Complex). f u v (endLent tw k)) (same k (omega arith)) (same (h - k) (omega arith))
-
-  cells : (j : ℕ) → j < h + 1 → made xs j ≡ made ys j
-  cells j l = pick (ℕ-discrete j 0) (ℕ-discrete j h) (decLe (2 * j) h) (ℕ-discrete (2 * j) h)
-    where
-      pick : Dec (j ≡ 0) → Dec (j ≡ h) → Dec (2 * j ≤ h) → Dec (2 * j ≡ h) → made xs j ≡ made ys j
-      pick (yes a) b d e =
-          rw a
-          (end-first fftSteps h (cell xs) (endLent tw)
-          ∙ ap (λ (z : Complex). fftSteps .first z (cell ys h)) (same 0 some)
-          ∙ sym (end-first fftSteps h (cell ys) (endLent tw)))
-      pick (no a) (yes b) d e =
-          rw b
-          (end-last fftSteps h (cell xs) (endLent tw) some
-          ∙ ap (λ (z : Complex). fftSteps .last z (cell ys h)) (same 0 some)
-          ∙ sym (end-last fftSteps h (cell ys) (endLent tw) some))
-      pick (no a) (no b) d (yes e) =
-          end-centre fftSteps h (cell xs) (endLent tw) j (omega (arith, a)) e
-          ∙ ap (fftSteps .centre) (same j (omega (arith, a)))
-          ∙ sym (end-centre fftSteps h (cell ys) (endLent tw) j (omega (arith, a)) e)
-      pick (no a) (no b) (yes d) (no e) =
-          end-near fftSteps h (cell xs) (endLent tw) j (omega (arith, a)) (omega (arith, d, e))
-          ∙ pair j (omega (arith, a)) (omega (arith, d, e)) fftNear
-          ∙ sym (end-near fftSteps h (cell ys) (endLent tw) j (omega (arith, a)) (omega (arith, d, e)))
-      pick (no a) (no b) (no d) (no e) =
-          let back : h - (h - j) ≡ j = omega arith in
-          let one = end-far fftSteps h (cell xs) (endLent tw) (h - j) (omega (arith, b)) (omega (arith, d)) in
-          let other = end-far fftSteps h (cell ys) (endLent tw) (h - j) (omega (arith, b)) (omega (arith, d)) in
-          rw back at (one ∙ pair (h - j) (omega (arith, b)) (omega (arith, d)) fftFar ∙ sym other)
-
-  pub fft-reads : postprocess-fft h tw xs ≡ postprocess-fft h tw ys
-  unfolding ended
-  fft-reads = ap flat (tabulate-same (h + 1) 0 _ _ (λ j l. cells (0 + j) (omega arith)))
 
 -- ---- a row, cell by cell
 

@@ -1,2 +1,3 @@
 -- The laws that the proofs share, by subject.
 pub mod Cells
+pub mod Batches

@@ -1,12 +1,12 @@
--- A flat list and its cells, and one cell written.
+-- A flat list and its cells, those of a part of it, and one cell written.
 -- Assumes nothing.
 use mathlib.Core.Path.{_≡_, refl, ap, ap₂, _∙_}
 use mathlib.Core.Logic.{_≢_}
 use mathlib.Core.List.{List, [], _∷_}
 use Prim.Native.Nat.{ℕ, zero, suc, _+_, _*_, _<_}
 use native.Mathlib.Omega.{arith}
-use lib.ListN.{length, getD, set, length-set}
-use lib.Seq.{getD-set-same, getD-set-other}
+use lib.ListN.{length, getD, set, take, drop, length-set}
+use lib.Seq.{getD-set-same, getD-set-other, getD-take, getD-drop}
 use lib.Ieee.{Float, nan}
 use Rattle.floats.specs.declared.complex.Complex.{Complex}
 use Rattle.floats.specs.Complexes.{cx, blank, cell, putCell, paired, flat}
@@ -44,6 +44,17 @@ pub paired-flat : (zs : List Complex) → paired (flat zs) ≡ zs
 unfolding paired flat
 paired-flat [] = refl
 paired-flat (z ∷ zs) = ap (λ (l : List Complex). z ∷ l) (paired-flat zs)
+
+-- ---- the cells of the beginning and of the end of a list
+
+pub cell-take : (xs : List Float) (n j : ℕ) → j < n → cell (take (2 * n) xs) j ≡ cell xs j
+cell-take xs n j l = ap₂ cx (getD-take (2 * n) xs (2 * j) nan (omega arith)) (getD-take (2 * n) xs (2 * j + 1) nan (omega arith))
+
+pub cell-drop : (xs : List Float) (n j : ℕ) → cell (drop (2 * n) xs) j ≡ cell xs (n + j)
+cell-drop xs n j =
+    ap₂ cx
+    (getD-drop (2 * n) xs (2 * j) nan ∙ ap (λ (i : ℕ). getD xs i nan) (omega arith))
+    (getD-drop (2 * n) xs (2 * j + 1) nan ∙ ap (λ (i : ℕ). getD xs i nan) (omega arith))
 
 -- ---- one cell written
 

@@ -1,5 +1,6 @@
 -- The laws that the proofs share, by subject.
 pub mod Flat
 pub mod Scan
+pub mod Squares
 pub mod Words
 pub mod Unique

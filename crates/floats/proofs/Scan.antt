@@ -1,5 +1,5 @@
 -- The first number at which a test fails, step by step; where there is none; and that the test at a bound 2 ^ k is the definition's. Assumes nothing.
-use Prim.Native.Nat.{ℕ, zero, suc, _+_, _*_, _/_, _%_, _^_, _<_, _≤_}
+use Prim.Native.Nat.{ℕ, zero, suc, _+_, _-_, _*_, _/_, _%_, _^_, _<_, _≤_}
 use native.Mathlib.Nat.{mul-one, one-mul, mul-pos, eq-or-lt-of-le, lt-of-not-le, le-of-suc-le-suc, add-zero, zero-add, suc-add}
 use native.Mathlib.Numerals.{add-one}
 use native.Mathlib.Omega.{arith}
@@ -11,13 +11,13 @@ use mathlib.Core.List.{List, [], _∷_, _++_}
 use lib.Dec.{ltb, leb, eqb}
 use lib.ListN.{length, getD, drop, drop-of-length-le, length-append}
 use lib.Seq.{drop-cons}
-use lib.Pow.{pow-pos}
-use lib.Ieee.{Float, nan, inf, fin, le, lt, eq, neg, up, down}
+use lib.Pow.{pow-pos, pow-lt}
+use lib.Ieee.{Float, nan, inf, fin, le, lt, eq, neg, up, down, binary32, ofBits}
 use lib.Ieee.Fits.{down-pos}
-use borrow.Author.Tests.{lt-ltb, le-ltb, le-leb, lt-leb, eq-eqb, ne-eqb}
+use borrow.Author.Tests.{leb-true, lt-ltb, le-ltb, le-leb, lt-leb, eq-eqb, ne-eqb}
 use Rattle.floats.specs.declared.complex.Complex.{Complex}
 use Rattle.floats.specs.Complexes.{cell}
-use Rattle.floats.specs.Scan.{fits, firstNot, firstUnfit, bound, within, Passed}
+use Rattle.floats.specs.Scan.{fits, firstNot, firstUnfit, bound, within, Passed, AllWithin}
 
 -- where the first i pass, the answer is i and the answer for the rest
 pub first-pass : (p : Float → Bool) (xs : List Float) (i : ℕ) → i < length xs → p (getD xs i nan) ≡ true
@@ -28,6 +28,28 @@ first-pass p xs i h t e = e ∙ ap (λ (l : List Float). i + firstNot p l) (drop
 pub pass-on : (b : Float) (xs : List Float) (i k : ℕ) → i + k < length xs → within b (getD xs (i + k) nan) ≡ true → Passed b xs (i + k) → Passed b xs (i + (k + 1))
 pass-on b xs i k h t p =
     subst (Passed b xs) {x = i + k + 1} {y = i + (k + 1)} (omega arith) (first-pass (within b) xs (i + k) h t p)
+
+-- and of so many
+pub pass-all : (b : Float) (xs : List Float) (i n : ℕ) → i + n ≤ length xs → AllWithin b xs i n → Passed b xs i → Passed b xs (i + n)
+pass-all b xs i zero l w p = subst (Passed b xs) (sym (add-zero i)) p
+pass-all b xs i (suc n) l w p =
+    subst (λ (m : ℕ). Passed b xs (i + m)) {x = n + 1} {y = suc n} (omega arith)
+    (pass-on b xs i n (omega arith) (w n (omega arith)) (pass-all b xs i n (omega arith) (λ k lk. w k (omega arith)) p))
+
+-- one number more
+pub within-next : (b : Float) (xs : List Float) (i k : ℕ) → within b (getD xs (i + k) nan) ≡ true → AllWithin b xs i k → AllWithin b xs i (k + 1)
+within-next b xs i k t w j lj = pick (ℕ-discrete j k)
+  where
+    pick : Dec (j ≡ k) → within b (getD xs (i + j) nan) ≡ true
+    pick (yes e) = rw e t
+    pick (no e) = w j (omega (arith, e))
+
+-- and to the end, where the last n numbers are, of which the first are looked at once more
+pub pass-end : (b : Float) (xs : List Float) (i n : ℕ) → i ≤ length xs → n ≤ length xs → length xs - n ≤ i → AllWithin b xs (length xs - n) n → Passed b xs i → Passed b xs (length xs)
+pass-end b xs i n li ln lt w p =
+    subst (Passed b xs) {x = i + (length xs - i)} {y = length xs} (omega arith)
+    (pass-all b xs i (length xs - i) (omega arith) (λ k lk.
+    subst (λ (j : ℕ). within b (getD xs j nan) ≡ true) {x = length xs - n + (i + k - (length xs - n))} {y = i + k} (omega arith) (w (i + k - (length xs - n)) (omega arith))) p)
 
 pub first-fail : (p : Float → Bool) (xs : List Float) (i : ℕ) → i < length xs → p (getD xs i nan) ≡ false
     → firstNot p xs ≡ i + firstNot p (drop i xs) → firstNot p xs ≡ i
@@ -140,6 +162,27 @@ within-fits k (inf true) = refl
 within-fits k (inf false) = refl
 within-fits k (fin false m e) = simp (mul-one, one-mul) (above (m * up e) (2 ^ k * down e) _ (mul-pos (pow-pos k) (down-pos e)))
 within-fits k (fin true m e) = simp (mul-one, one-mul) (below (m * up e) (2 ^ k * down e) _ (mul-pos (pow-pos k) (down-pos e)))
+
+-- 2 ^ 48 as a program writes it
+limit : ofBits binary32 1468006400 ≡ bound 48
+unfolding ofBits
+limit = refl
+
+-- no other power of two up to it is larger
+powers : (k : ℕ) → le (bound k) (bound 48) ≡ true → k ≤ 48
+unfolding le
+powers k e =
+    dite (decLe k 48)
+    (λ (h : k ≤ 48). h)
+    (λ (h : k ≤ 48 → ⊥).
+    let a = 1 * 2 ^ k * 1 in
+    let b = 1 * 2 ^ 48 * 1 in
+    let l : a ≤ b = leb-true a b (sym (or-eq a b (eqb a b) (eq-eqb a b) (ne-eqb a b)) ∙ e) in
+    let g : 2 ^ 48 < 2 ^ k = pow-lt (lt-of-not-le h) in
+    absurd (omega arith))
+
+pub power-below : (b : Float) (k : ℕ) → b ≡ bound k → le b (ofBits binary32 1468006400) ≡ true → k ≤ 48
+power-below b k e t = powers k (ap (λ (x : Float). le x (bound 48)) (sym e) ∙ ap (le b) (sym limit) ∙ t)
 
 -- so a scan at 2 ^ k finds the first number that does not fit
 pub first-unfit : (b : Float) (xs : List Float) (n : ℕ) → n ≡ firstNot (within b) xs → (k : ℕ) → b ≡ bound k → n ≡ firstUnfit k xs

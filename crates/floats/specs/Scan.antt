@@ -1,11 +1,11 @@
 -- Which numbers are taken, and the first that is not. Assumes nothing.
-use Prim.Native.Nat.{ℕ, suc, _+_, _*_, _^_}
+use Prim.Native.Nat.{ℕ, suc, _+_, _*_, _^_, _<_}
 use mathlib.Core.Path.{_≡_}
-use mathlib.Core.Bool.{Bool, false, cond, _&&_}
+use mathlib.Core.Bool.{Bool, true, false, cond, _&&_}
 use mathlib.Core.List.{List, [], _∷_}
-use lib.Dec.{leb}
-use lib.ListN.{drop}
-use lib.Ieee.{Float, nan, inf, fin, le, neg, up, down}
+use lib.Dec.{T, leb}
+use lib.ListN.{drop, getD}
+use lib.Ieee.{Float, nan, inf, fin, binary32, fits as Ieee·fits, le, mul, neg, up, down}
 use lib.IntN.{pos}
 
 -- finite, and at most 2 ^ k in magnitude: a finite number is m * 2 ^ e in size, which is m * up e over down e
@@ -34,3 +34,11 @@ within b x = le x b && le (neg b) x
 -- the first i numbers are within b, so that the scan may go on from there
 abbrev pub Passed : (b : Float) → List Float → (i : ℕ) → Type 0
 Passed b xs i = firstNot (within b) xs ≡ i + firstNot (within b) (drop i xs)
+
+-- an f32 whose square is at most that of b is within b
+abbrev pub SquaresTell : (b : Float) → Type 0
+SquaresTell b = (x : Float) → T (Ieee·fits binary32 x) → le (mul binary32 x x) (mul binary32 b b) ≡ true → within b x ≡ true
+
+-- the n numbers from i on are within b
+abbrev pub AllWithin : (b : Float) → List Float → (i n : ℕ) → Type 0
+AllWithin b xs i n = (k : ℕ) → k < n → within b (getD xs (i + k) nan) ≡ true

@@ -5,7 +5,7 @@ use mathlib.Core.Bool.{Bool, true}
 use mathlib.Core.Logic.{inl, inr}
 use mathlib.Core.List.{List}
 use Prim.Native.Nat.{ℕ, _+_, _-_, _*_, _≤_, _<_}
-use native.Mathlib.Nat.{mul-le-mul-right, suc-mul}
+use native.Mathlib.Nat.{mul-one, mul-le-mul-right, suc-mul}
 use native.Mathlib.Omega.{arith}
 use lib.ListN.{getD}
 use lib.Ieee.{Float}
@@ -13,8 +13,8 @@ use Rattle.plan.specs.Lists.{isRadix}
 use Rattle.plan.proofs.Products.{Radix, radix-is}
 use Rattle.schedule.specs.Stage.{tabulate}
 use Rattle.floats.specs.declared.complex.Complex.{Complex}
-use Rattle.floats.specs.Complexes.{blank}
-use Rattle.kernel.specs.Parts.{kernelOf, readOf, outputOf, Sized, Fetched, Wrote, Saved}
+use Rattle.floats.specs.Complexes.{blank, cell}
+use Rattle.kernel.specs.Parts.{kernelOf, readOf, outputOf, Sized, Fetched, Fetched4, Wrote, Saved}
 use Rattle.kernel.proofs.Writes.{wrote-as, saved-as}
 use Rattle.kernel.proofs.Kernel.{outputs-of}
 
@@ -33,15 +33,24 @@ eight {r} k a b c d e = go (radix-is r k)
 pub sized-at : {M r ns : ℕ} (ρ : ℕ) → r ≡ ρ → Sized M r ns → Sized M ρ ns
 sized-at ρ e k = rw e at k
 
-pub fetched-at : (i n r : ℕ) (t : List Float) (lent : ℕ → ℕ → Complex) (ρ : ℕ) → r ≡ ρ → Fetched i n r lent t → Fetched i n ρ lent t
-fetched-at i n r t lent ρ e f = rw e at f
+pub fetched-at : (i n r : ℕ) (t : List Float) (lent : ℕ → ℕ → Complex) (ρ : ℕ) → r ≡ ρ → Fetched i n r lent t
+    → (j q : ℕ) → j < n → 0 < q → q < ρ → cell t (j * (ρ - 1) + (q - 1) * 1) ≡ lent (i + j) q
+fetched-at i n r t lent ρ e f j q lj l lq =
+    let f′ : Fetched i n ρ lent t = rw e at f in
+    rw (mul-one (q - 1)) (f′ j q lj l lq)
+
+pub fetched4-at : (i n r : ℕ) (t : List Float) (lent : ℕ → ℕ → Complex) (ρ : ℕ) → r ≡ ρ → Fetched4 i n r lent t → Fetched4 i n ρ lent t
+fetched4-at i n r t lent ρ e f = rw e at f
 
 -- lane j has room for its twiddles
-pub lane-room : (j r n : ℕ) → j < 16 → 2 * (16 * (r - 1)) ≤ n → 2 * (j * (r - 1) + (r - 1)) ≤ n
-lane-room j r n l room = omega (arith, mul-le-mul-right (r - 1) l, suc-mul j (r - 1))
+lane-room : (j r len n : ℕ) → j < len → 2 * (len * (r - 1)) ≤ n → (q : ℕ) → 0 < q → q < r → 2 * (j * (r - 1) + (q - 1) * 1) + 1 < n
+lane-room j r len n l room q lq lq′ = omega (arith, mul-le-mul-right (r - 1) l, suc-mul j (r - 1))
 
-pub lane-room-at : (j r ρ n : ℕ) → r ≡ ρ → j < 16 → 2 * (16 * (r - 1)) ≤ n → 2 * (j * (ρ - 1) + (ρ - 1)) ≤ n
-lane-room-at j r ρ n e l room = rw e at (lane-room j r n l room)
+pub lane-room-at : (j r ρ len n : ℕ) → r ≡ ρ → j < len → 2 * (len * (r - 1)) ≤ n → (q : ℕ) → 0 < q → q < ρ → 2 * (j * (ρ - 1) + (q - 1) * 1) + 1 < n
+lane-room-at j r ρ len n e l room = rw e at (lane-room j r len n l room)
+
+pub four-room-at : (j r ρ n : ℕ) → r ≡ ρ → j < 4 → 2 * (4 * (r - 1)) ≤ n → (q : ℕ) → 0 < q → q < ρ → 2 * (j * 1 + (q - 1) * 4) + 1 < n
+four-room-at j r ρ n e l room q lq lq′ = omega (arith, e)
 
 pub room-at : (k M r ρ n : ℕ) → r ≡ ρ → k < M → 2 * (M * r) ≤ n → 2 * (k * ρ + ρ) ≤ n
 room-at k M r ρ n e l room = rw (sym e) (omega (arith, mul-le-mul-right r l, suc-mul k r))

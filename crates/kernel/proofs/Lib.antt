@@ -2,6 +2,7 @@
 pub mod Writes
 pub mod Kernel
 pub mod Places
+pub mod Batches
 pub mod Arms
 pub mod Widths
 pub mod Works

@@ -106,6 +106,24 @@ held-step i j r v re im re′ im′ lj w before j′ p lj′ lp = pick (ℕ-disc
     pick (yes e) = rw e (w .inside p lp)
     pick (no f) = w .outside (16 * p + j′) (λ q lq e. f (omega arith)) ∙ before j′ p (omega (arith, f)) lp
 
+-- lanes of two pairs, picked by the radix
+pub picked : (i n r : ℕ) (v : ℕ → ℕ → Complex) (ra ia rb ib p q : List Float) → (r < 7 → p ≡ ra) × (7 ≤ r → p ≡ rb) → (r < 7 → q ≡ ia) × (7 ≤ r → q ≡ ib)
+    → (r < 7 → Held i n r v ra ia) × (7 ≤ r → Held i n r v rb ib) → Held i n r v p q
+picked i n r v ra ia rb ib p q is-re is-im held = pick (decLe 7 r)
+  where
+    pick : Dec (7 ≤ r) → Held i n r v p q
+    pick (yes x) = rw (is-re .1 x, is-im .1 x) (held .1 x)
+    pick (no x) =
+        let l : r < 7 = omega (arith, x) in
+        rw (is-re .0 l, is-im .0 l) (held .0 l)
+
+pub picked-size : (r n : ℕ) (a b p : List Float) → (r < 7 → p ≡ a) × (7 ≤ r → p ≡ b) → length a ≡ n → length b ≡ n → length p ≡ n
+picked-size r n a b p is la lb = pick (decLe 7 r)
+  where
+    pick : Dec (7 ≤ r) → length p ≡ n
+    pick (yes x) = rw (is .1 x) lb
+    pick (no x) = rw (is .0 (omega (arith, x))) la
+
 -- ---- all outputs in their cells make the stage
 
 pub staged : (h n s r j : ℕ) → h ≡ n * (s * r) → 0 < s → 0 < r → (lent : ℕ → ℕ → Complex) (src dst : List Float) → length src ≡ 2 * h → length dst ≡ 2 * h

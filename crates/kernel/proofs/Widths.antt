@@ -1,19 +1,23 @@
 -- Where the twiddles of a stage stand at any width, and that sixteen iterations of them are fetched.
 -- Assumes nothing.
-use mathlib.Core.Path.{_≡_, sym, ap, _∙_}
+use mathlib.Core.Path.{_≡_, refl, sym, ap, _∙_}
+use mathlib.Core.Bool.{Bool, true, false}
 use mathlib.Core.List.{List}
 use Prim.Native.Nat.{ℕ, _+_, _-_, _*_, _/_, _%_, _≤_, _<_}
-use native.Mathlib.Nat.{div-one, mod-one, mul-le-mul, div-le-self, zero-add}
+use native.Mathlib.Nat.{div-one, mod-one, mul-le-mul, mul-le-mul-right, div-le-self}
 use native.Mathlib.Omega.{arith}
 use native.Mathlib.Decide.{decLe, ℕ-discrete}
 use lib.Arith.{digits-lt}
+use lib.ListN.{length, take, drop, length-drop}
+use lib.Seq.{take-all}
 use lib.Ieee.{Float}
 use Rattle.twiddle.specs.Places.{place}
 use Rattle.twiddle.proofs.Places.{lane-place, lone-place, stands}
 use Rattle.floats.specs.declared.complex.Complex.{Complex}
 use Rattle.floats.specs.Complexes.{cell}
+use Rattle.floats.proofs.Flat.{cell-drop}
 use Rattle.kernel.specs.Floats.{lentAt}
-use Rattle.kernel.specs.Parts.{Wrote, Fetched}
+use Rattle.kernel.specs.Parts.{Wrote, Fetched, Fetched4}
 
 -- at width 1 they stand one after the other
 place-one : (M r i q : ℕ) → place M r 1 i q ≡ i * (r - 1) + (q - 1)
@@ -65,13 +69,6 @@ small-lanes n r ln lr =
     let b : r - 1 ≤ 7 = omega arith in
     mul-le-mul ln b
 
--- at width 1 they are fetched as they stand
-pub fetched-plain : (i n M r : ℕ) (tw ys t : List Float) → Wrote (λ u. cell tw (i * (r - 1) + u * 1)) 0 (n * (r - 1)) ys t → Fetched i n r (lentAt M r 1 tw) t
-fetched-plain i n M r tw ys t w j q lj l lq =
-    let lq′ : q - 1 < r - 1 = omega arith in
-    let e : i * (r - 1) + (j * (r - 1) + (q - 1)) * 1 ≡ (i + j) * (r - 1) + (q - 1) = omega arith in
-    ap (cell t) (sym (zero-add (j * (r - 1) + (q - 1)))) ∙ w .inside (j * (r - 1) + (q - 1)) (digits-lt lj lq′) ∙ ap (cell tw) (e ∙ sym (place-one M r (i + j) q))
-
 -- one more iteration
 pub fetched-step : (i j r : ℕ) (lent : ℕ → ℕ → Complex) (t t′ : List Float) → Wrote (λ u. lent (i + j) (u + 1)) (j * (r - 1)) (r - 1) t t′
     → Fetched i j r lent t → Fetched i (j + 1) r lent t′
@@ -85,3 +82,52 @@ fetched-step i j r lent t t′ w before j′ q lj l lq = pick (ℕ-discrete j′
     pick (no f) =
         let m : j′ * (r - 1) + (q - 1) < j * (r - 1) = digits-lt (omega (arith, f)) lq′ in
         w .outside (j′ * (r - 1) + (q - 1)) (λ u lu e. omega arith) ∙ before j′ q (omega (arith, f)) l lq
+
+-- ---- twiddles read where they stand, from the first of iteration i on
+
+pub rest : (n : ℕ) (xs : List Float) → take (length xs - n) (drop n xs) ≡ drop n xs
+rest n xs = take-all (length xs - n) (drop n xs) (omega (arith, length-drop n xs))
+
+pub past-room : (i M r n : ℕ) → i ≤ M → 2 * (M * (r - 1)) ≤ n → 2 * (i * (r - 1)) ≤ n
+past-room i M r n l room = omega (arith, mul-le-mul-right (r - 1) l)
+
+pub here-room : (i n M r : ℕ) (tw : List Float) → i + n ≤ M → 2 * (M * (r - 1)) ≤ length tw → 2 * (n * (r - 1)) ≤ length (drop (2 * (i * (r - 1))) tw)
+here-room i n M r tw l room = omega (arith, mul-le-mul-right (r - 1) l, length-drop (2 * (i * (r - 1))) tw)
+
+-- side by side: at width 1, and at width 4 after the whole lanes
+beside : (M r W i q : ℕ) → 0 < W → W ≤ 4 → (W ≡ 2 → ⊥) × (W ≡ 3 → ⊥) → (W ≡ 4 → M / 4 * 4 ≤ i) → place M r W i q ≡ i * (r - 1) + (q - 1)
+beside M r W i q some narrow other past = pick (ℕ-discrete W 1)
+  where
+    pick : Dec (W ≡ 1) → place M r W i q ≡ i * (r - 1) + (q - 1)
+    pick (yes e) = rw e (place-one M r i q)
+    pick (no f) =
+        let four : W ≡ 4 = omega (arith, f, other .0, other .1) in
+        rw four (lone-place M r 4 i q (past four))
+
+fetched-here : (i n M r W : ℕ) (tw : List Float) → 0 < W → W ≤ 4 → (W ≡ 2 → ⊥) × (W ≡ 3 → ⊥) → (W ≡ 4 → M / 4 * 4 ≤ i) → Fetched i n r (lentAt M r W tw) (drop (2 * (i * (r - 1))) tw)
+fetched-here i n M r W tw some narrow other past j q lj l lq =
+    let e : i * (r - 1) + (j * (r - 1) + (q - 1)) ≡ (i + j) * (r - 1) + (q - 1) = omega arith in
+    cell-drop tw (i * (r - 1)) (j * (r - 1) + (q - 1)) ∙ ap (cell tw) (e ∙ sym (beside M r W (i + j) q some narrow other (λ four. omega (arith, past four))))
+
+-- in whole lanes of 4
+pub fetched4-here : (i n M r : ℕ) (tw : List Float) → i % 4 ≡ 0 → n ≤ 4 → i + n ≤ M / 4 * 4
+    → Fetched4 i n r (lentAt M r 4 tw) (take (length tw - 2 * (i * (r - 1))) (drop (2 * (i * (r - 1))) tw))
+fetched4-here i n M r tw whole few inside = rw (rest (2 * (i * (r - 1))) tw) all
+  where
+    all : Fetched4 i n r (lentAt M r 4 tw) (drop (2 * (i * (r - 1))) tw)
+    all j q lj l lq =
+        let d : (i + j) / 4 ≡ i / 4 = omega arith in
+        let m : (i + j) % 4 ≡ j = omega arith in
+        let b : i ≡ i / 4 * 4 = omega arith in
+        let c : i * (r - 1) ≡ i / 4 * (4 * (r - 1)) = ap (λ (k : ℕ). k * (r - 1)) b ∙ omega arith in
+        let p : place M r 4 (i + j) q ≡ i / 4 * (4 * (r - 1)) + ((q - 1) * 4 + j) = lane-place M r 4 (i + j) q (omega arith) ∙ rw (d, m) refl in
+        let e : i * (r - 1) + (j * 1 + (q - 1) * 4) ≡ i / 4 * (4 * (r - 1)) + ((q - 1) * 4 + j) = omega (arith, c) in
+        cell-drop tw (i * (r - 1)) (j * 1 + (q - 1) * 4) ∙ ap (cell tw) (e ∙ sym p)
+
+-- read where they stand or fetched
+pub lent-part : (here : Bool) (i n M r W : ℕ) (tw t p : List Float) → 0 < W → W ≤ 4 → (here ≡ true → (W ≡ 2 → ⊥) × (W ≡ 3 → ⊥)) → (W ≡ 4 → M / 4 * 4 ≤ i)
+    → i + n ≤ M → n ≤ 16 → r ≤ 8 → 2 * (M * (r - 1)) ≤ length tw → length t ≡ 224
+    → (here ≡ true → p ≡ drop (2 * (i * (r - 1))) tw) × (here ≡ false → p ≡ t) → (here ≡ false → Fetched i n r (lentAt M r W tw) t)
+    → Fetched i n r (lentAt M r W tw) p × (2 * (n * (r - 1)) ≤ length p)
+lent-part true i n M r W tw t p some narrow other past l ln lr room lt is f = rw (is .0 refl) (fetched-here i n M r W tw some narrow (other refl) past, here-room i n M r tw l room)
+lent-part false i n M r W tw t p some narrow other past l ln lr room lt is f = rw (is .1 refl) (f refl, omega (arith, small-lanes n r ln lr, lt))

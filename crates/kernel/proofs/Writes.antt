@@ -38,6 +38,9 @@ module _ (g : ℕ → Complex) (at : ℕ) (ys : List Float) where
   pub wrote-as : (h : ℕ → Complex) {n : ℕ} {ys′ : List Float} → ((t : ℕ) → t < n → g t ≡ h t) → Wrote g at n ys ys′ → Wrote h at n ys ys′
   wrote-as h e w = record { size = w .size; inside = λ t l. w .inside t l ∙ e t l; outside = w .outside }
 
+  pub wrote-from : {at′ n : ℕ} {ys′ : List Float} → at ≡ at′ → Wrote g at n ys ys′ → Wrote g at′ n ys ys′
+  wrote-from e w = rw e at w
+
   pub wrote-all : {n m : ℕ} {ys′ : List Float} → n ≡ m → Wrote g at n ys ys′ → Wrote g at m ys ys′
   wrote-all e w = rw e at w
 

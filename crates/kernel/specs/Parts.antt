@@ -63,6 +63,10 @@ pub record Lending (M r nt nl : ℕ) : Type 0 where
 abbrev pub Fetched : (i n r : ℕ) → (lent : ℕ → ℕ → Complex) → List Float → Type 0
 Fetched i n r lent t = (j q : ℕ) → j < n → 0 < q → q < r → cell t (j * (r - 1) + (q - 1)) ≡ lent (i + j) q
 
+-- .. as packed for width 4
+abbrev pub Fetched4 : (i n r : ℕ) → (lent : ℕ → ℕ → Complex) → List Float → Type 0
+Fetched4 i n r lent t = (j q : ℕ) → j < n → 0 < q → q < r → cell t (j * 1 + (q - 1) * 4) ≡ lent (i + j) q
+
 -- ---- cells written
 
 -- ys′ is ys with the cells g 0, .., g (n - 1) from cell `at` on
@@ -114,6 +118,26 @@ pub record Stored (i M len s r nd : ℕ) : Type 0 where
   pub blocks : Blocks M s r nd
   pub within : i + len ≤ M
   pub lanes : len ≤ 16
+
+-- so many cells are stored at once; 0 where it is found anew each time
+abbrev pub Batch : ℕ → Type 0
+Batch e = (e ≤ 4) × (e ≡ 3 → ⊥)
+
+-- where that is 2 or 4, it divides n
+abbrev pub Even : (e n : ℕ) → Type 0
+Even e n = (e ≡ 1 → ⊥) × (e ≡ 2 → n % 2 ≡ 0) × (e ≡ 4 → n % 4 ≡ 0)
+
+-- .. the iterations in lanes and the stride
+pub record Evenly (e len s : ℕ) : Type 0 where
+  pub batch : Batch e
+  pub lanes : Even e len
+  pub stride : Even e s
+
+-- the first output of iteration i goes to column `col` of the block that starts at `block`
+pub record Placed (e i s r block col : ℕ) : Type 0 where
+  pub starts : block ≡ i / s * (s * r)
+  pub column : col ≡ i % s
+  pub even : Even e col
 
 -- what the work of a stage asks for: an accepted plan with that stage, a width, words for h cells to read and to write, and its own twiddles
 pub record Workable (p : Record) (j W ns nt nd : ℕ) : Type 0 where

@@ -1,5 +1,6 @@
 // What other crates call under a proof, and the parts of it.
 pub mod first;
+pub mod fours;
 pub mod kernel;
 pub mod lanes;
 pub mod lent;

@@ -112,6 +112,6 @@ fn follows(
     if is_whole {
         transforms::follows(question, own, other, packed, input, output, scratch, fd)
     } else {
-        ends_alone::follows(question, own, other, input, fd)
+        ends_alone::follows(question, own, other, input, output, fd)
     }
 }

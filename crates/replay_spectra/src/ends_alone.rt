@@ -1,5 +1,5 @@
 // The steps at an end alone: the list, the direction and how many words the twiddles have; the original's words of them; and
-// cases, each with whose twiddles are lent, the kind of the cells, a seed, and a checksum of all cells afterwards.
+// cases, each with whose twiddles are lent, the kind of the cells, a seed, and a checksum of the cells made of them.
 use crate::cases::count;
 use crate::cases::differing;
 use crate::lending::is_lending;
@@ -44,6 +44,25 @@ pub fn follows(
     own: &[f32],
     other: &mut [f32],
     cells: &mut [f32],
+    output: &mut [f32],
+    fd: i32,
+) -> u64
+    ensures { λ r. ⌜ r ≤ 1 ⌝ }
+{
+    let words = cells.len();
+    if words > output.len() {
+        return 1;
+    }
+    compared(question, own, other, cells, &mut output[..words], fd)
+}
+
+// The same, with as much room for what is made as there are cells.
+fn compared(
+    question: Question,
+    own: &[f32],
+    other: &mut [f32],
+    cells: &mut [f32],
+    made: &mut [f32],
     fd: i32,
 ) -> u64
     ensures { λ r. ⌜ r ≤ 1 ⌝ }
@@ -54,8 +73,8 @@ pub fn follows(
     }
     let seed = lend(line[0], own, other, word(&line[4..12]) as u64);
     fill(cells, line[2], seed);
-    let is_done = done(question, cells, other);
-    if is_done && shows_case(line, cells) {
+    let is_done = done(question, cells, other, made);
+    if is_done && shows_case(line, made) {
         0
     } else {
         1
@@ -71,7 +90,7 @@ fn shows_case(line: [u8; 24], cells: &[f32]) -> bool {
 }
 
 // Whether the library does the step.
-fn done(question: Question, cells: &mut [f32], twiddles: &[f32]) -> bool {
+fn done(question: Question, cells: &[f32], twiddles: &[f32], output: &mut [f32]) -> bool {
     let plan = question.plan;
     let h = plan.half;
     if h == 0 {
@@ -83,13 +102,16 @@ fn done(question: Question, cells: &mut [f32], twiddles: &[f32]) -> bool {
     if cells.len() != 2 * (h + 1) {
         return false;
     }
+    if output.len() != cells.len() {
+        return false;
+    }
     if twiddles.len() < 2 * ((h - 1) / 2) {
         return false;
     }
     if question.is_forward {
-        postprocess_fft(cells, twiddles, h);
+        postprocess_fft(cells, twiddles, output, h);
     } else {
-        preprocess_ifft(cells, twiddles, h);
+        preprocess_ifft(cells, twiddles, output, h);
     }
     true
 }

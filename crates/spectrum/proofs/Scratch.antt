@@ -4,21 +4,18 @@ use native.Mathlib.Omega.{arith}
 use mathlib.Core.Path.{_≡_, sym, ap, ap₂, _∙_}
 use mathlib.Core.List.{List, _++_, append-assoc, append-nil}
 use borrow.Rule.Slice.PartMut.{putMid}
-use lib.Ieee.{Float, nan}
-use lib.ListN.{length, take, drop, length-append, length-drop, take-append-drop, drop-of-length-le, List·getD-append}
+use lib.Ieee.{Float}
+use lib.ListN.{length, take, drop, length-append, length-drop, take-append-drop, drop-of-length-le}
 use lib.Seq.{length-take-le, length-front, take-at, drop-at, drop-drop, drop-append-le, take-append-le}
+use Rattle.plan.specs.declared.Buffer.{Buffer}
+use Rattle.plan.specs.declared.Buffer.the-variants.{Data, Scratchpad}
 use Rattle.plan.specs.declared.Record.{Record}
-use Rattle.schedule.specs.Buffers.{Two, driven}
+use Rattle.schedule.specs.Buffers.{Two, driven, heldIn}
 use Rattle.schedule.proofs.Buffers.{driven-none, driven-long, driven-pad}
-use Rattle.floats.specs.Complexes.{cx, cell}
 use Rattle.stage.specs.Runs.{ownOf, stageIn, runOf}
 use Rattle.stage.proofs.Runs.{length-made}
 use Rattle.floats.specs.Words.{pasted}
 use Rattle.spectrum.specs.Transforms.{dataOf, padOf, withBoth}
-
--- the cells of a row are those of its beginning
-pub cell-front : (xs ys : List Float) (j : ℕ) → 2 * j + 1 < length xs → cell (xs ++ ys) j ≡ cell xs j
-cell-front xs ys j l = ap₂ cx (List·getD-append xs ys nan (2 * j) (omega arith)) (List·getD-append xs ys nan (2 * j + 1) l)
 
 -- the first words replaced by as many, the row is as long as it was
 pub front-room : (h : ℕ) (d s : List Float) → length d ≡ length (take (2 * h) s) → 2 * h ≤ length s → (length (d ++ drop (2 * h) s) ≡ length s) × (length (dataOf h (d ++ drop (2 * h) s)) ≡ 2 * h)
@@ -32,6 +29,11 @@ module _ (h : ℕ) (s : List Float) (room : 4 * h ≤ length s) where
 
   pub pad-length : length (padOf h s) ≡ 2 * h
   pad-length = length-take-le (2 * h) (drop (2 * h) s) (omega (arith, length-drop (2 * h) s))
+
+  -- so is whichever is named
+  pub part-long : (which : Buffer) → length (heldIn which (dataOf h s, padOf h s)) ≡ 2 * h
+  part-long Data = data-length
+  part-long Scratchpad = pad-length
 
 -- the Scratchpad as it is cut out
 pub pad-part : (h : ℕ) (s : List Float) → take (2 * (2 * h) - 2 * h) (drop (2 * h) s) ≡ padOf h s
@@ -119,31 +121,30 @@ module _ (p : Record) (W : ℕ) (tw : List Float) where
       → (length (runOf p W tw b .0) ≡ 2 * p .half) × (length (runOf p W tw b .1) ≡ 2 * p .half)
   run-long b l m = driven-long (stageIn p W tw) b (2 * p .half) (λ k zs. length-made p k W (ownOf p tw k) zs) l m (p .count)
 
-  module _ (s o : List Float) (room : 4 * p .half ≤ length s) (other : 2 * p .half ≤ length o) where
-    -- what the run makes of the Data and of what the other buffer held, and what it makes of the Scratchpad
+  module _ (xs s o : List Float) (samples : length xs ≡ 2 * p .half) (room : 4 * p .half ≤ length s) (other : 2 * p .half ≤ length o) where
+    -- what the run makes of the numbers xs and of what the other buffer held, and what it makes of them and of the Scratchpad
     abbrev beside : Two Float
-    beside = runOf p W tw (dataOf (p .half) s, dataOf (p .half) o)
+    beside = runOf p W tw (xs, dataOf (p .half) o)
 
     abbrev within : Two Float
-    within = runOf p W tw (dataOf (p .half) s, padOf (p .half) s)
+    within = runOf p W tw (xs, padOf (p .half) s)
 
     pub stages-made : 0 < p .count → (d e s′ : List Float) → d ≡ beside .0 → e ≡ beside .1
         → s′ ≡ pasted (d ++ drop (2 * p .half) s) (2 * p .half) (dataOf (p .half) (e ++ drop (2 * p .half) o)) → s′ ≡ withBoth (p .half) within s
     stages-made some d e s′ ed ee made =
-        let lens = run-long (dataOf (p .half) s, dataOf (p .half) o) (data-length (p .half) s room) (length-take-le (2 * p .half) o other) in
+        let lens = run-long (xs, dataOf (p .half) o) samples (length-take-le (2 * p .half) o other) in
         let ld : length d ≡ 2 * p .half = ap length ed ∙ lens .0 in
         let le : length e ≡ 2 * p .half = ap length ee ∙ lens .1 in
         made
         ∙ ap (pasted (d ++ drop (2 * p .half) s) (2 * p .half)) (front-data (p .half) e o le)
         ∙ both-pasted (p .half) d s ld e le
         ∙ ap₂ (λ (u v : List Float). withBoth (p .half) (u, v) s) ed ee
-        ∙ ap (λ (b : Two Float). withBoth (p .half) b s) (driven-pad (stageIn p W tw) (dataOf (p .half) s) (dataOf (p .half) o) (padOf (p .half) s) (p .count) some)
+        ∙ ap (λ (b : Two Float). withBoth (p .half) b s) (driven-pad (stageIn p W tw) xs (dataOf (p .half) o) (padOf (p .half) s) (p .count) some)
 
     pub stages-none : p .count ≡ 0 → (d : List Float) → d ≡ beside .0 → d ++ drop (2 * p .half) s ≡ withBoth (p .half) within s
     stages-none none d ed =
         let nothing : (b : Two Float) → runOf p W tw b ≡ b = λ b. ap (λ (n : ℕ). driven (stageIn p W tw) n b) none ∙ driven-none (stageIn p W tw) b in
-        let same : d ≡ dataOf (p .half) s = ed ∙ ap (λ (b : Two Float). b .0) (nothing (dataOf (p .half) s, dataOf (p .half) o)) in
+        let same : d ≡ xs = ed ∙ ap (λ (b : Two Float). b .0) (nothing (xs, dataOf (p .half) o)) in
         ap (λ (u : List Float). u ++ drop (2 * p .half) s) same
-        ∙ take-append-drop (2 * p .half) s
-        ∙ sym (parted (p .half) s)
-        ∙ ap (λ (b : Two Float). withBoth (p .half) b s) (sym (nothing (dataOf (p .half) s, padOf (p .half) s)))
+        ∙ data-replaced (p .half) xs s
+        ∙ ap (λ (b : Two Float). withBoth (p .half) b s) (sym (nothing (xs, padOf (p .half) s)))

@@ -22,9 +22,9 @@ use Rattle.ends.specs.Ends.{ifftSteps, postprocess-fft, preprocess-ifft, conjug
 use Rattle.floats.specs.Words.{pasted}
 use Rattle.floats.proofs.Words.{front-pasted}
 use Rattle.ends.specs.Parts.{Endable}
-use Rattle.ends.proofs.Cells.{fft-reads, length-ended, length-conjugated}
+use Rattle.ends.proofs.Cells.{length-ended, length-conjugated}
 use Rattle.spectrum.specs.Transforms.{dataOf, padOf, withBoth, forwardRun, forwardOf, preparedOf, inverseRun, restored, inverseOf}
-use Rattle.spectrum.proofs.Scratch.{cell-front, data-length, pad-length, pad-part, pad-replaced, data-replaced, tail-replaced, tail-length, front-data, front-pad, front-rest, both-data, both-pad, both-rest, run-long}
+use Rattle.spectrum.proofs.Scratch.{data-length, pad-length, pad-part, pad-replaced, data-replaced, tail-replaced, tail-length, front-data, front-pad, front-rest, both-data, both-pad, both-rest, run-long}
 
 -- a result is one of two buffers of a length
 pub held-long : (n : ℕ) (which : Buffer) (b : Two Float) → length (b .0) ≡ n → length (b .1) ≡ n → length (heldIn which b) ≡ n
@@ -43,7 +43,7 @@ module _ (p : Record) (W : ℕ) (stage s s1 : List Float) (b : Two Float) (ed : 
 
 -- ---- forward
 
-module _ (p : Record) (W : ℕ) (stage end xs s : List Float) (some : 0 < p .half) (samples : length xs ≡ 2 * p .half) (room : 4 * p .half ≤ length s) where
+module _ (p : Record) (W : ℕ) (stage end xs s : List Float) (samples : length xs ≡ 2 * p .half) (room : 4 * p .half ≤ length s) where
   -- what the stages leave
   abbrev ran : Two Float
   ran = runOf p W stage (xs, padOf (p .half) s)
@@ -51,36 +51,24 @@ module _ (p : Record) (W : ℕ) (stage end xs s : List Float) (some : 0 < p .hal
   ran-long : (length (ran .0) ≡ 2 * p .half) × (length (ran .1) ≡ 2 * p .half)
   ran-long = run-long p W stage (xs, padOf (p .half) s) samples (pad-length (p .half) s room)
 
-  pub forward-made : (s1 s2 o o1 o2 : List Float) (which : Buffer) → s1 ≡ pasted s 0 xs → s2 ≡ withBoth (p .half) (runOf p W stage (dataOf (p .half) s1, padOf (p .half) s1)) s1
-      → which ≡ resultIn (p .count) → o1 ≡ heldIn which (dataOf (p .half) s2, padOf (p .half) s2) ++ drop (2 * p .half) o → o2 ≡ postprocess-fft (p .half) end o1
-      → (o2 ≡ forwardOf p W stage end xs s .0) × (s2 ≡ forwardOf p W stage end xs s .1)
+  pub forward-made : (s2 o : List Float) (which : Buffer) → s2 ≡ withBoth (p .half) ran s → which ≡ resultIn (p .count)
+      → o ≡ postprocess-fft (p .half) end (heldIn which (dataOf (p .half) s2, padOf (p .half) s2))
+      → (o ≡ forwardOf p W stage end xs s .0) × (s2 ≡ forwardOf p W stage end xs s .1)
   unfolding forwardOf forwardRun
-  forward-made s1 s2 o o1 o2 which e1 e2 ew eo1 eo2 =
+  forward-made s2 o which e2 ew eo =
       let h = p .half in
-      let f : s1 ≡ xs ++ drop (2 * h) s = e1 ∙ front-pasted s xs (2 * h) samples in
-      let s2′ : s2 ≡ withBoth h ran s
-      = staged p W stage s s1 (xs, padOf h s) (ap (dataOf h) f ∙ front-data h xs s samples) (ap (padOf h) f ∙ front-pad h xs s samples) (ap (drop (4 * h)) f ∙ front-rest h xs s samples) s2 e2 in
-      let d : dataOf h s2 ≡ ran .0 = ap (dataOf h) s2′ ∙ both-data h ran s (ran-long .0) (ran-long .1) in
-      let q : padOf h s2 ≡ ran .1 = ap (padOf h) s2′ ∙ both-pad h ran s (ran-long .0) (ran-long .1) in
-      let Z : List Float = heldIn (resultIn (p .count)) ran in
-      let long : length Z ≡ 2 * h = held-long (2 * h) (resultIn (p .count)) ran (ran-long .0) (ran-long .1) in
-      let z : o1 ≡ Z ++ drop (2 * h) o
-      = eo1 ∙ ap₂ (λ (w : Buffer) (c : Two Float). heldIn w c ++ drop (2 * h) o) ew (two {b = (dataOf h s2, padOf h s2)} {c = ran} d q) in
-      (eo2 ∙ ap (postprocess-fft h end) z ∙ fft-reads h end (Z ++ drop (2 * h) o) Z some (λ j l. cell-front Z (drop (2 * h) o) j (omega arith)), s2′)
+      let d : dataOf h s2 ≡ ran .0 = ap (dataOf h) e2 ∙ both-data h ran s (ran-long .0) (ran-long .1) in
+      let q : padOf h s2 ≡ ran .1 = ap (padOf h) e2 ∙ both-pad h ran s (ran-long .0) (ran-long .1) in
+      (eo ∙ ap₂ (λ (w : Buffer) (c : Two Float). postprocess-fft h end (heldIn w c)) ew (two {b = (dataOf h s2, padOf h s2)} {c = ran} d q), e2)
 
 -- ---- inverse
 
--- the bins copied, prepared and conjugated
-pub prepare-made : (h : ℕ) (end xs s s1 q d : List Float) → length xs ≡ 2 * (h + 1) → s1 ≡ pasted s 0 xs → q ≡ preprocess-ifft h end (take (2 * (h + 1)) s1)
-    → d ≡ conjugated h (take (2 * h) (q ++ drop (2 * (h + 1)) s1))
-    → d ++ drop (2 * h) (q ++ drop (2 * (h + 1)) s1) ≡ conjugated h (dataOf h (preparedOf h end xs s)) ++ drop (2 * h) (preparedOf h end xs s)
+-- the bins prepared and conjugated
+pub prepare-made : (h : ℕ) (end xs s q d : List Float) → q ≡ preprocess-ifft h end xs → d ≡ conjugated h (take (2 * h) (q ++ drop (2 * (h + 1)) s))
+    → d ++ drop (2 * h) (q ++ drop (2 * (h + 1)) s) ≡ conjugated h (dataOf h (preparedOf h end xs s)) ++ drop (2 * h) (preparedOf h end xs s)
 unfolding preparedOf
-prepare-made h end xs s s1 q d long e1 eq ed =
-    let f : s1 ≡ xs ++ drop (2 * (h + 1)) s = e1 ∙ front-pasted s xs (2 * (h + 1)) long in
-    let front : take (2 * (h + 1)) s1 ≡ xs = ap (take (2 * (h + 1))) f ∙ take-at xs (drop (2 * (h + 1)) s) (2 * (h + 1)) long in
-    let rest : drop (2 * (h + 1)) s1 ≡ drop (2 * (h + 1)) s = ap (drop (2 * (h + 1))) f ∙ drop-at xs (drop (2 * (h + 1)) s) (2 * (h + 1)) long in
-    let whole : q ++ drop (2 * (h + 1)) s1 ≡ preprocess-ifft h end xs ++ drop (2 * (h + 1)) s
-    = ap₂ (λ (u v : List Float). u ++ v) (eq ∙ ap (preprocess-ifft h end) front) rest in
+prepare-made h end xs s q d eq ed =
+    let whole : q ++ drop (2 * (h + 1)) s ≡ preprocess-ifft h end xs ++ drop (2 * (h + 1)) s = ap (λ (u : List Float). u ++ drop (2 * (h + 1)) s) eq in
     ap₂ (λ (u v : List Float). u ++ drop (2 * h) v) (ed ∙ ap (λ (v : List Float). conjugated h (take (2 * h) v)) whole) whole
 
 -- what is prepared is as long as the scratch, and its rest is the scratch's

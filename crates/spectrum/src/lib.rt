@@ -24,10 +24,10 @@ pub fn forward(
     input: &[f32],
     output: &mut [f32],
     scratch: &mut [f32],
-    stage: &[f32],
-    end: &[f32],
+    stage_twiddles: &[f32],
+    end_twiddles: &[f32],
 ) -> Verdict
-    ensures { λ r. ⌜ Forwards plan width (now (stage .entry)) (now (end .entry)) (now (input .entry)) (now (output .entry), now (scratch .entry)) r (now (output .exit), now (scratch .exit)) ⌝ }
+    ensures { λ r. ⌜ Forwards plan width (now («stage_twiddles» .entry)) (now («end_twiddles» .entry)) (now (input .entry)) (now (output .entry), now (scratch .entry)) r (now (output .exit), now (scratch .exit)) ⌝ }
 {
     let is_input = input.len() == plan.n;
     let is_output = is_bins(output.len(), plan.half);
@@ -39,11 +39,19 @@ pub fn forward(
         scratch.len(),
         4294967296.0,
         input,
-        stage,
-        end,
+        stage_twiddles,
+        end_twiddles,
     ) {
         Verdict::Accepted => {
-            transform::forward(plan, width, input, output, scratch, stage, end);
+            transform::forward(
+                plan,
+                width,
+                input,
+                output,
+                scratch,
+                stage_twiddles,
+                end_twiddles,
+            );
             Verdict::Accepted
         }
         Verdict::Refused(why) => Verdict::Refused(why),
@@ -57,10 +65,10 @@ pub fn inverse(
     input: &[f32],
     output: &mut [f32],
     scratch: &mut [f32],
-    stage: &[f32],
-    end: &[f32],
+    stage_twiddles: &[f32],
+    end_twiddles: &[f32],
 ) -> Verdict
-    ensures { λ r. ⌜ Inverts plan width (now (stage .entry)) (now (end .entry)) (now (input .entry)) (now (output .entry), now (scratch .entry)) r (now (output .exit), now (scratch .exit)) ⌝ }
+    ensures { λ r. ⌜ Inverts plan width (now («stage_twiddles» .entry)) (now («end_twiddles» .entry)) (now (input .entry)) (now (output .entry), now (scratch .entry)) r (now (output .exit), now (scratch .exit)) ⌝ }
 {
     let is_input = is_bins(input.len(), plan.half);
     let is_output = !(output.len() < plan.n);
@@ -72,11 +80,19 @@ pub fn inverse(
         scratch.len(),
         281474976710656.0,
         input,
-        stage,
-        end,
+        stage_twiddles,
+        end_twiddles,
     ) {
         Verdict::Accepted => {
-            transform::inverse(plan, width, input, output, scratch, stage, end);
+            transform::inverse(
+                plan,
+                width,
+                input,
+                output,
+                scratch,
+                stage_twiddles,
+                end_twiddles,
+            );
             Verdict::Accepted
         }
         Verdict::Refused(why) => Verdict::Refused(why),

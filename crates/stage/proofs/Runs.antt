@@ -1,7 +1,7 @@
 -- Laws of a run: its stages find what they ask for, and leave what the definition states. Assumes nothing.
-use Prim.Native.Nat.{ℕ, _+_, _-_, _*_, _≤_, _<_}
+use Prim.Native.Nat.{ℕ, _+_, _-_, _*_, _%_, _≤_, _<_}
 use native.Mathlib.Omega.{arith}
-use mathlib.Core.Path.{_≡_, ap, _∙_}
+use mathlib.Core.Path.{_≡_, sym, ap, _∙_}
 use mathlib.Core.List.{List}
 use lib.Ieee.{Float}
 use lib.ListN.{length, take, drop, length-drop}
@@ -10,10 +10,10 @@ use Rattle.plan.specs.Counts.{radix, stride, twiddleCount, twiddleStart, stageT
 use Rattle.plan.specs.declared.Buffer.{Buffer}
 use Rattle.plan.specs.declared.Record.{Record}
 use Rattle.plan.proofs.Counts.{start-next}
-use Rattle.schedule.specs.Buffers.{Two, alternated, heldIn}
+use Rattle.schedule.specs.Buffers.{Two, alternated, driven, heldIn}
 use Rattle.schedule.specs.Plans.{inUse}
 use Rattle.schedule.specs.Stage.{stage}
-use Rattle.schedule.proofs.Buffers.{both-long}
+use Rattle.schedule.proofs.Buffers.{even-next, odd-next, driven-copied, driven-kept, driven-none}
 use Rattle.schedule.proofs.Cells.{length-stage}
 use Rattle.twiddle.proofs.Counts.{start-up}
 use Rattle.floats.proofs.Flat.{length-flat}
@@ -60,26 +60,51 @@ pub length-made : (p : Record) (j W : ℕ) (tw xs : List Float) → length (stag
 unfolding stageOf stage
 length-made p j W tw xs = length-flat _ ∙ ap (λ (n : ℕ). 2 * n) (length-stage _ _ j (p .half) (stride (inUse p) j) (radix (inUse p) j) _)
 
-module _ (p : Record) (W : ℕ) (tw xs ys : List Float) (nt : ℕ) (h : Drivable p W (length xs) (length ys) nt) where
-  -- the buffers after k stages
-  abbrev pub both : ℕ → Two Float
-  both k = alternated (stageIn p W tw) k (xs, ys)
+-- buffers as long serve as well
+pub drivable-as : {p : Record} {W nd ns nt nd′ ns′ : ℕ} → Drivable p W nd ns nt → nd′ ≡ nd → ns′ ≡ ns → Drivable p W nd′ ns′ nt
+drivable-as h ed es = rw (ed, es) h
 
-  -- both stay as long as they are
-  pub both-lengths : (k : ℕ) → (length (both k .0) ≡ 2 * p .half) × (length (both k .1) ≡ 2 * p .half)
-  both-lengths = both-long (stageIn p W tw) (xs, ys) (2 * p .half) (λ k zs. length-made p k W (ownOf p tw k) zs) (h .long) (h .wide)
-
-  pub steppable : (k : ℕ) → k < p .count → (ns nd start : ℕ) → ns ≡ 2 * p .half → nd ≡ 2 * p .half → start ≡ twiddleStart (p .half) (p .radices) k
-      → Steppable p k W ns nd nt start
-  steppable k l ns nd start es ed et =
+module _ {p : Record} {W nd ns nt : ℕ} (h : Drivable p W nd ns nt) where
+  pub steppable : (k : ℕ) → k < p .count → (read written start : ℕ) → read ≡ 2 * p .half → written ≡ 2 * p .half → start ≡ twiddleStart (p .half) (p .radices) k
+      → Steppable p k W read written nt start
+  steppable k l read written start es ed et =
       record { planned = h .planned; known = l; width = h .width; narrow = h .narrow; source = es; target = ed; lent = h .lent; starts = et }
 
--- ---- the end of a run
+-- ---- the stages after the first
 
-module _ (p : Record) (W : ℕ) (tw : List Float) (b : Two Float) where
-  -- the buffer that is handed back
-  pub handed : (which : Buffer) (d s out : List Float) → which ≡ resultIn (p .count) → d ≡ runOf p W tw b .0 → s ≡ runOf p W tw b .1 → out ≡ heldIn which (d, s)
-      → out ≡ heldIn (resultIn (p .count)) (runOf p W tw b)
-  handed which d s out e f g o =
-      let pair : _≡_ {A = Two Float} (d, s) (runOf p W tw b .0, runOf p W tw b .1) = λ i. (f i, g i) in
-      o ∙ ap (λ (x : Buffer). heldIn x (d, s)) e ∙ ap (λ (c : Two Float). heldIn (resultIn (p .count)) c) pair
+-- d and s are what k stages leave of whatever the first one made s₀ of; what d holds counts from two on
+abbrev pub Going : (f : ℕ → List Float → List Float) (s₀ d s : List Float) → (k : ℕ) → Type 0
+Going f s₀ d s k = (xs ys : List Float) → s₀ ≡ f 0 xs → (2 ≤ k → d ≡ alternated f k (xs, ys) .0) × (s ≡ alternated f k (xs, ys) .1)
+
+module _ (f : ℕ → List Float → List Float) (s₀ d : List Float) where
+  pub going-first : Going f s₀ d s₀ 1
+  unfolding alternated
+  going-first xs ys e = (λ l. absurd (omega arith), e)
+
+  module _ (s d′ s′ : List Float) (k : ℕ) (some : 0 < k) (g : Going f s₀ d s k) where
+    pub going-even : k % 2 ≡ 0 → d′ ≡ d → s′ ≡ f k d → Going f s₀ d′ s′ (k + 1)
+    going-even e u v xs ys a =
+        let next = even-next f (xs, ys) k d s d′ s′ e (g xs ys a .0 (omega (arith, e))) u v in
+        (λ l. next .0, next .1)
+
+    pub going-odd : (k % 2 ≡ 0 → ⊥) → d′ ≡ f k s → s′ ≡ s → Going f s₀ d′ s′ (k + 1)
+    going-odd e u v xs ys a =
+        let next = odd-next f (xs, ys) k d s d′ s′ e (g xs ys a .1) u v in
+        (λ l. next .0, next .1)
+
+  -- a single stage copied back, and more of them
+  pub gone-one : (count : ℕ) → count ≡ 1 → d ≡ s₀ → (xs ys : List Float) → s₀ ≡ f 0 xs → (d ≡ driven f count (xs, ys) .0) × (s₀ ≡ driven f count (xs, ys) .1)
+  unfolding alternated
+  gone-one count one same xs ys e = driven-copied f (xs, ys) count one d s₀ same (rw one e)
+
+  pub gone-all : (s : List Float) (k count : ℕ) → k ≡ count → 2 ≤ count → Going f s₀ d s k
+      → (xs ys : List Float) → s₀ ≡ f 0 xs → (d ≡ driven f count (xs, ys) .0) × (s ≡ driven f count (xs, ys) .1)
+  gone-all s k count e more g xs ys a =
+      let last : (2 ≤ count → d ≡ alternated f count (xs, ys) .0) × (s ≡ alternated f count (xs, ys) .1) = rw e at (g xs ys a) in
+      driven-kept f (xs, ys) count (λ one. omega arith) d s (last .0 more) (last .1)
+
+-- none
+pub gone-none : (f : ℕ → List Float → List Float) (count : ℕ) → count ≡ 0 → (b : Two Float) → (b .0 ≡ driven f count b .0) × (b .1 ≡ driven f count b .1)
+gone-none f count none b =
+    let g : b ≡ driven f count b = sym (ap (λ (n : ℕ). driven f n b) none ∙ driven-none f b) in
+    (ap (λ (c : Two Float). c .0) g, ap (λ (c : Two Float). c .1) g)

@@ -31,12 +31,42 @@ pub fn first(src: &[f32], tw: &[f32], dst: &mut [f32], i: usize, m: usize, len: 
     while j < len {
         let k = i + j;
         match r {
-            2 => spread(outputs(cells(src, tw, k, j, m, 2, true), 2), dst, k * 2, 2),
-            3 => spread(outputs(cells(src, tw, k, j, m, 3, true), 3), dst, k * 3, 3),
-            4 => spread(outputs(cells(src, tw, k, j, m, 4, true), 4), dst, k * 4, 4),
-            5 => spread(outputs(cells(src, tw, k, j, m, 5, true), 5), dst, k * 5, 5),
-            7 => spread(outputs(cells(src, tw, k, j, m, 7, true), 7), dst, k * 7, 7),
-            _ => spread(outputs(cells(src, tw, k, j, m, 8, true), 8), dst, k * 8, 8),
+            2 => spread(
+                outputs(cells(src, tw, k, 0, 0, 0, m, 2, true), 2),
+                dst,
+                k * 2,
+                2,
+            ),
+            3 => spread(
+                outputs(cells(src, tw, k, 0, 0, 0, m, 3, true), 3),
+                dst,
+                k * 3,
+                3,
+            ),
+            4 => spread(
+                outputs(cells(src, tw, k, 0, 0, 0, m, 4, true), 4),
+                dst,
+                k * 4,
+                4,
+            ),
+            5 => spread(
+                outputs(cells(src, tw, k, 0, 0, 0, m, 5, true), 5),
+                dst,
+                k * 5,
+                5,
+            ),
+            7 => spread(
+                outputs(cells(src, tw, k, 0, 0, 0, m, 7, true), 7),
+                dst,
+                k * 7,
+                7,
+            ),
+            _ => spread(
+                outputs(cells(src, tw, k, 0, 0, 0, m, 8, true), 8),
+                dst,
+                k * 8,
+                8,
+            ),
         }
         j += 1;
     }

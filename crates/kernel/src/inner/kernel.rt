@@ -43,18 +43,20 @@ pub fn outputs(c: [Complex; 8], r: usize) -> [Complex; 8]
     ]
 }
 
-// What iteration i of m reads; its twiddles are those of iteration j of tw.
+// What iteration i of m reads; its twiddles stand from j * a on in tw, b apart.
 pub fn cells(
     src: &[f32],
     tw: &[f32],
     i: usize,
     j: usize,
+    a: usize,
+    b: usize,
     m: usize,
     r: usize,
     first: bool,
 ) -> [Complex; 8]
-    requires { ⌜ Sized m r (length (now src)) × (i < m) × (first ≡ false → 2 * (j * (r - 1) + (r - 1)) ≤ length (now tw)) ⌝ }
-    ensures { λ c. ⌜ ((lent : ℕ → ℕ → Complex) → (first ≡ false → (q : ℕ) → 0 < q → q < r → cell (now (tw .entry)) (j * (r - 1) + (q - 1)) ≡ lent i q) → (q : ℕ) → q < r → getD c q blank ≡ readOf first m (now (src .entry)) lent i q) ⌝ }
+    requires { ⌜ Sized m r (length (now src)) × (i < m) × (first ≡ false → (q : ℕ) → 0 < q → q < r → 2 * (j * a + (q - 1) * b) + 1 < length (now tw)) ⌝ }
+    ensures { λ c. ⌜ ((lent : ℕ → ℕ → Complex) → (first ≡ false → (q : ℕ) → 0 < q → q < r → cell (now (tw .entry)) (j * a + (q - 1) * b) ≡ lent i q) → (q : ℕ) → q < r → getD c q blank ≡ readOf first m (now (src .entry)) lent i q) ⌝ }
 {
     let z = get(src, i);
     let mut c = [z; 8];
@@ -64,7 +66,7 @@ pub fn cells(
         c[q] = if first {
             x
         } else {
-            x.mul(get(tw, j * (r - 1) + (q - 1)))
+            x.mul(get(tw, j * a + (q - 1) * b))
         };
         q += 1;
     }

@@ -1,8 +1,10 @@
-// The lent twiddles of sixteen iterations, fetched from their places at any width, one iteration after the other.
+// The lent twiddles of sixteen iterations: read where they stand, or fetched from their places at any width, one iteration after the other.
 use floats::inner::cells::get;
 use floats::inner::cells::put;
+ghost use mathlib.Core.Path.{_≡_};
+ghost use mathlib.Core.Bool.{true, false};
 ghost use Prim.Native.Nat.{ℕ, _+_, _-_, _*_, _<_, _≤_};
-ghost use lib.ListN.{length};
+ghost use lib.ListN.{length, drop};
 ghost use Rattle.floats.specs.Complexes.{cell};
 ghost use Rattle.kernel.specs.Floats.{lentAt};
 ghost use Rattle.kernel.specs.Parts.{Lending, Fetched, Wrote};
@@ -33,18 +35,41 @@ fn fetch_one(tw: &[f32], t: &mut [f32], j: usize, i: usize, m: usize, r: usize, 
     }
 }
 
-// The twiddles of the len iterations from i on, which at width 1 stand as they are wanted.
-pub fn fetch(tw: &[f32], t: &mut [f32], i: usize, m: usize, len: usize, r: usize, w: usize)
+// The twiddles of the len iterations from i on, where they are wanted.
+pub fn fetch(
+    tw: &[f32],
+    t: &mut [f32],
+    i: usize,
+    m: usize,
+    len: usize,
+    r: usize,
+    w: usize,
+    here: bool,
+)
     requires { ⌜ Lending m r (length (now tw)) (length (now t)) × (0 < w) × (w ≤ 4) × (i + len ≤ m) × (len ≤ 16) ⌝ }
-    ensures { λ _. ⌜ Fetched i len r (lentAt m r w (now (tw .entry))) (now (t .exit)) ⌝ }
+    ensures { λ _. ⌜ (here ≡ false → Fetched i len r (lentAt m r w (now (tw .entry))) (now (t .exit))) ⌝ }
 {
-    if w == 1 {
-        gather(tw, t, 0, i * (r - 1), len * (r - 1), 1);
-    } else {
-        let mut j = 0;
-        while j < len {
-            fetch_one(tw, t, j, i + j, m, r, w);
-            j += 1;
-        }
+    if here {
+        return;
     }
+    let mut j = 0;
+    while j < len {
+        fetch_one(tw, t, j, i + j, m, r, w);
+        j += 1;
+    }
+}
+
+// Whether the twiddles of an iteration that is in no whole lanes of 4 stand side by side.
+pub fn stand(w: usize) -> bool
+    ensures { λ b. ⌜ (b ≡ true → (w ≡ 2 → ⊥) × (w ≡ 3 → ⊥)) ⌝ }
+{
+    w == 1 || w == 4
+}
+
+// The words of tw from `from` on, if they stand there, or those fetched.
+pub fn lent<'a>(tw: &'a [f32], t: &'a [f32], here: bool, from: usize) -> &'a [f32]
+    requires { ⌜ from ≤ length (now tw) ⌝ }
+    ensures { λ p. ⌜ (here ≡ true → now p ≡ drop from (now (tw .entry))) × (here ≡ false → now p ≡ now (t .entry)) ⌝ }
+{
+    if here { &tw[from..] } else { t }
 }

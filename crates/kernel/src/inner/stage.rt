@@ -1,18 +1,24 @@
 // A float stage, sixteen iterations at a time.
 use crate::inner::first::first;
+use crate::inner::fours::lanes4;
+use crate::inner::fours::store4;
+use crate::inner::lanes::Place;
+use crate::inner::lanes::evenly;
 use crate::inner::lanes::lanes;
 use crate::inner::lanes::least;
 use crate::inner::lanes::store;
 use crate::inner::lent::fetch;
+use crate::inner::lent::lent;
+use crate::inner::lent::stand;
 use plan::Record;
 use plan::inner::stages::stride;
 ghost use mathlib.Core.Path.{_≡_};
 ghost use mathlib.Core.Bool.{true, false};
-ghost use Prim.Native.Nat.{ℕ, _*_, _<_, _≤_};
+ghost use Prim.Native.Nat.{ℕ, _-_, _*_, _/_, _%_, _<_, _≤_};
 ghost use lib.ListN.{length};
 ghost use Rattle.floats.specs.declared.complex.Complex.{Complex};
 ghost use Rattle.kernel.specs.Floats.{lentAt, stageOf};
-ghost use Rattle.kernel.specs.Parts.{outputOf, Sized, Lending, Done, Blocks, Workable};
+ghost use Rattle.kernel.specs.Parts.{outputOf, Sized, Lending, Done, Blocks, Batch, Even, Placed, Workable};
 
 // The first stage of radix r, of m iterations.
 fn first_stage(src: &[f32], tw: &[f32], dst: &mut [f32], m: usize, r: usize)
@@ -21,10 +27,76 @@ fn first_stage(src: &[f32], tw: &[f32], dst: &mut [f32], m: usize, r: usize)
 {
     let mut i = 0;
     while i < m {
-        let len = least(m - i, 16);
+        let len = least(m - i, 64);
         first(src, tw, dst, i, m, len, r);
         i += len;
     }
+}
+
+// How many iterations stand in whole lanes of 4.
+fn in_fours(m: usize, w: usize) -> usize
+    ensures { λ e. ⌜ (e ≤ m) × (w ≡ 4 → e ≡ m / 4 * 4) × ((w ≡ 4 → ⊥) → e ≡ 0) ⌝ }
+{
+    if w == 4 { m / 4 * 4 } else { 0 }
+}
+
+// The lanes that radix r is kept in: an array serves some arms only, so that the compiler still sees that it does not escape.
+fn pick<'a>(a: &'a [f32], b: &'a [f32], r: usize) -> &'a [f32]
+    ensures { λ p. ⌜ (r < 7 → now p ≡ now (a .entry)) × (7 ≤ r → now p ≡ now (b .entry)) ⌝ }
+{
+    if r < 7 { a } else { b }
+}
+
+// Of a later stage of m iterations those below `end`, in whole lanes of 4; and the place of the next.
+fn by_fours(
+    src: &[f32],
+    tw: &[f32],
+    dst: &mut [f32],
+    m: usize,
+    end: usize,
+    s: usize,
+    r: usize,
+    even: usize,
+) -> Place
+    requires { ⌜ Sized m r (length (now src)) × (2 * (m * (r - 1)) ≤ length (now tw)) × Blocks m s r (length (now dst)) × Batch even × Even even s × (end ≤ m / 4 * 4) × (end % 4 ≡ 0) ⌝ }
+    ensures { λ q. ⌜ Placed even end s r (q .block) (q .col) × Done s r (outputOf false m r (now (src .entry)) (lentAt m r 4 (now (tw .entry)))) (now (dst .exit)) end ⌝ }
+{
+    let mut ra = [0.0f32; 128];
+    let mut ia = [0.0f32; 128];
+    let mut rb = [0.0f32; 128];
+    let mut ib = [0.0f32; 128];
+    let mut at = Place { block: 0, col: 0 };
+    let mut i = 0;
+    while i < end {
+        let len = least(end - i, 4);
+        let from = 2 * (i * (r - 1));
+        lanes4(
+            src,
+            &tw[from..],
+            &mut ra,
+            &mut ia,
+            &mut rb,
+            &mut ib,
+            i,
+            m,
+            len,
+            r,
+        );
+        at = store4(
+            pick(&ra, &rb, r),
+            pick(&ia, &ib, r),
+            dst,
+            at,
+            i,
+            m,
+            len,
+            s,
+            r,
+            even,
+        );
+        i += len;
+    }
+    at
 }
 
 // A later stage of radix r at stride s, of m iterations, its twiddles packed for width w.
@@ -35,12 +107,26 @@ fn later_stage(src: &[f32], tw: &[f32], dst: &mut [f32], m: usize, s: usize, r: 
     let mut t = [0.0f32; 224];
     let mut re = [0.0f32; 128];
     let mut im = [0.0f32; 128];
-    let mut i = 0;
+    let even = evenly(s);
+    let here = stand(w);
+    let end = in_fours(m, w);
+    let mut at = by_fours(src, tw, dst, m, end, s, r, even);
+    let mut i = end;
     while i < m {
         let len = least(m - i, 16);
-        fetch(tw, &mut t, i, m, len, r, w);
-        lanes(src, &t, &mut re, &mut im, i, m, len, r);
-        store(&re, &im, dst, i, m, len, s, r);
+        fetch(tw, &mut t, i, m, len, r, w, here);
+        let from = 2 * (i * (r - 1));
+        lanes(
+            src,
+            lent(tw, &t, here, from),
+            &mut re,
+            &mut im,
+            i,
+            m,
+            len,
+            r,
+        );
+        at = store(&re, &im, dst, at, i, m, len, s, r, even);
         i += len;
     }
 }

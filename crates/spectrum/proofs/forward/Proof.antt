@@ -24,7 +24,7 @@ forward-requires : tie.Need-forward-requires
 unfolding ofBits
 forward-requires c κs =
     let a = c .before .before .before .before .before .before .before .before .before .before .before .before .args in
-    forwardable (a .plan) (a .width) _ _ (length (a .input .now)) (length (a .output .now)) (length (a .scratch .now)) 32 (a .input .now) (a .stage .now) (a .end .now) _ refl (c .before .before .before .before .before .is-bins .ensures) (c .before .before .before .before .lent .ensures 32 refl) (c .before .before .enum-told .given .1)
+    forwardable (a .plan) (a .width) _ _ (length (a .input .now)) (length (a .output .now)) (length (a .scratch .now)) 32 (a .input .now) (a .stage-twiddles .now) (a .end-twiddles .now) _ refl (c .before .before .before .before .before .is-bins .ensures) (c .before .before .before .before .lent .ensures 32 refl) (c .before .before .enum-told .given .1)
 
 enum-known-why : tie.Need-enum-known-why
 enum-known-why c = search needs
@@ -40,14 +40,14 @@ unfolding ofBits
 returns c =
     let a = c .before .before .before .before .before .before .before .before .before .before .before .before .before .before .before .before .before .args in
     let made = c .before .before .before .before .forward .ensures in
-    let told = c .before .before .before .before .before .before .before .before .before .lent .ensures 32 refl ∙ ap (λ (b : Bool). lentVerdict (a .plan) (a .width) (eqb (length (a .input .now)) (a .plan .n)) b (length (a .scratch .now)) 32 (a .input .now) (a .stage .now) (a .end .now)) (c .before .before .before .before .before .before .before .before .before .before .is-bins .ensures) in
+    let told = c .before .before .before .before .before .before .before .before .before .lent .ensures 32 refl ∙ ap (λ (b : Bool). lentVerdict (a .plan) (a .width) (eqb (length (a .input .now)) (a .plan .n)) b (length (a .scratch .now)) 32 (a .input .now) (a .stage-twiddles .now) (a .end-twiddles .now)) (c .before .before .before .before .before .before .before .before .before .before .is-bins .ensures) in
     settles-accepted _ _ _ _ (sym (c .before .before .before .before .before .before .before .enum-told .given .1) ∙ told) (λ i. (made .0 i, made .1 i))
 
 returns-2 : tie.Need-returns-2
 unfolding ofBits
 returns-2 c =
     let a = c .before .before .before .before .before .before .before .before .before .before .before .args in
-    let told = c .before .before .before .lent .ensures 32 refl ∙ ap (λ (b : Bool). lentVerdict (a .plan) (a .width) (eqb (length (a .input .now)) (a .plan .n)) b (length (a .scratch .now)) 32 (a .input .now) (a .stage .now) (a .end .now)) (c .before .before .before .before .is-bins .ensures) in
+    let told = c .before .before .before .lent .ensures 32 refl ∙ ap (λ (b : Bool). lentVerdict (a .plan) (a .width) (eqb (length (a .input .now)) (a .plan .n)) b (length (a .scratch .now)) 32 (a .input .now) (a .stage-twiddles .now) (a .end-twiddles .now)) (c .before .before .before .before .is-bins .ensures) in
     settles-refused _ _ _ _ (sym (c .before .why .given .1) ∙ told)
 
 pub forward-spec : {M : Type 1} → statement M

@@ -24,7 +24,7 @@ inverse-requires : tie.Need-inverse-requires
 unfolding ofBits
 inverse-requires c κs =
     let a = c .before .before .before .before .before .before .before .before .before .before .before .before .args in
-    invertible (a .plan) (a .width) _ _ (length (a .input .now)) (length (a .output .now)) (length (a .scratch .now)) 48 (a .input .now) (a .stage .now) (a .end .now) _ (c .before .before .before .before .before .before .is-bins .ensures) refl (c .before .before .before .before .lent .ensures 48 refl) (c .before .before .enum-told .given .1)
+    invertible (a .plan) (a .width) _ _ (length (a .input .now)) (length (a .output .now)) (length (a .scratch .now)) 48 (a .input .now) (a .stage-twiddles .now) (a .end-twiddles .now) _ (c .before .before .before .before .before .before .is-bins .ensures) refl (c .before .before .before .before .lent .ensures 48 refl) (c .before .before .enum-told .given .1)
 
 enum-known-why : tie.Need-enum-known-why
 enum-known-why c = search needs
@@ -40,14 +40,14 @@ unfolding ofBits
 returns c =
     let a = c .before .before .before .before .before .before .before .before .before .before .before .before .before .before .before .before .before .args in
     let made = c .before .before .before .before .inverse .ensures in
-    let told = c .before .before .before .before .before .before .before .before .before .lent .ensures 48 refl ∙ ap (λ (b : Bool). lentVerdict (a .plan) (a .width) b (not (ltb (length (a .output .now)) (a .plan .n))) (length (a .scratch .now)) 48 (a .input .now) (a .stage .now) (a .end .now)) (c .before .before .before .before .before .before .before .before .before .before .before .is-bins .ensures) in
+    let told = c .before .before .before .before .before .before .before .before .before .lent .ensures 48 refl ∙ ap (λ (b : Bool). lentVerdict (a .plan) (a .width) b (not (ltb (length (a .output .now)) (a .plan .n))) (length (a .scratch .now)) 48 (a .input .now) (a .stage-twiddles .now) (a .end-twiddles .now)) (c .before .before .before .before .before .before .before .before .before .before .before .is-bins .ensures) in
     settles-accepted _ _ _ _ (sym (c .before .before .before .before .before .before .before .enum-told .given .1) ∙ told) (λ i. (made .0 i, made .1 i))
 
 returns-2 : tie.Need-returns-2
 unfolding ofBits
 returns-2 c =
     let a = c .before .before .before .before .before .before .before .before .before .before .before .args in
-    let told = c .before .before .before .lent .ensures 48 refl ∙ ap (λ (b : Bool). lentVerdict (a .plan) (a .width) b (not (ltb (length (a .output .now)) (a .plan .n))) (length (a .scratch .now)) 48 (a .input .now) (a .stage .now) (a .end .now)) (c .before .before .before .before .before .is-bins .ensures) in
+    let told = c .before .before .before .lent .ensures 48 refl ∙ ap (λ (b : Bool). lentVerdict (a .plan) (a .width) b (not (ltb (length (a .output .now)) (a .plan .n))) (length (a .scratch .now)) 48 (a .input .now) (a .stage-twiddles .now) (a .end-twiddles .now)) (c .before .before .before .before .before .is-bins .ensures) in
     settles-refused _ _ _ _ (sym (c .before .why .given .1) ∙ told)
 
 pub inverse-spec : {M : Type 1} → statement M

@@ -1,11 +1,11 @@
 // Both directions on whatever numbers are lent, for callers that have looked at them.
 use crate::inner::stages::fetch;
+use crate::inner::stages::finish;
 use crate::inner::stages::prepare;
 use crate::inner::stages::restore;
 use crate::inner::stages::stages;
-use ends::inner::cells::postprocess_fft;
+use crate::inner::stages::stages_from;
 use ends::inner::words::clear;
-use floats::inner::words::paste;
 use plan::Buffer;
 use plan::Record;
 ghost use mathlib.Core.Path.{_≡_};
@@ -20,17 +20,15 @@ pub fn forward(
     input: &[f32],
     output: &mut [f32],
     scratch: &mut [f32],
-    stage: &[f32],
-    end: &[f32],
+    stage_twiddles: &[f32],
+    end_twiddles: &[f32],
 )
-    requires { ⌜ Forwardable plan width (length (now input)) (length (now output)) (length (now scratch)) (length (now stage)) (length (now end)) ⌝ }
-    ensures { λ _. ⌜ now (output .exit) ≡ forwardOf plan width (now (stage .entry)) (now (end .entry)) (now (input .entry)) (now (scratch .entry)) .0 ⌝ }
-    ensures { λ _. ⌜ now (scratch .exit) ≡ forwardOf plan width (now (stage .entry)) (now (end .entry)) (now (input .entry)) (now (scratch .entry)) .1 ⌝ }
+    requires { ⌜ Forwardable plan width (length (now input)) (length (now output)) (length (now scratch)) (length (now «stage_twiddles»)) (length (now «end_twiddles»)) ⌝ }
+    ensures { λ _. ⌜ now (output .exit) ≡ forwardOf plan width (now («stage_twiddles» .entry)) (now («end_twiddles» .entry)) (now (input .entry)) (now (scratch .entry)) .0 ⌝ }
+    ensures { λ _. ⌜ now (scratch .exit) ≡ forwardOf plan width (now («stage_twiddles» .entry)) (now («end_twiddles» .entry)) (now (input .entry)) (now (scratch .entry)) .1 ⌝ }
 {
-    paste(input, scratch, 0);
-    let which = stages(plan, width, scratch, output, stage);
-    fetch(which, scratch, output, plan.half);
-    postprocess_fft(output, end, plan.half);
+    let which = stages_from(plan, width, input, scratch, output, stage_twiddles);
+    finish(which, scratch, output, end_twiddles, plan.half);
 }
 
 // The stages on prepared bins, and their result in Data.
@@ -40,14 +38,14 @@ fn invert(
     input: &[f32],
     output: &mut [f32],
     scratch: &mut [f32],
-    stage: &[f32],
-    end: &[f32],
+    stage_twiddles: &[f32],
+    end_twiddles: &[f32],
 )
-    requires { ⌜ Invertible plan width (length (now input)) (length (now output)) (length (now scratch)) (length (now stage)) (length (now end)) ⌝ }
-    ensures { λ _. ⌜ now (scratch .exit) ≡ inverseOf plan width (now (stage .entry)) (now (end .entry)) (now (input .entry)) (now (scratch .entry)) (length (now (output .entry))) .1 ⌝ }
+    requires { ⌜ Invertible plan width (length (now input)) (length (now output)) (length (now scratch)) (length (now «stage_twiddles»)) (length (now «end_twiddles»)) ⌝ }
+    ensures { λ _. ⌜ now (scratch .exit) ≡ inverseOf plan width (now («stage_twiddles» .entry)) (now («end_twiddles» .entry)) (now (input .entry)) (now (scratch .entry)) (length (now (output .entry))) .1 ⌝ }
 {
-    prepare(input, scratch, end, plan.half);
-    let which = stages(plan, width, scratch, output, stage);
+    prepare(input, scratch, end_twiddles, plan.half);
+    let which = stages(plan, width, scratch, output, stage_twiddles);
     restore(which, scratch, output, plan.half);
 }
 
@@ -58,14 +56,22 @@ pub fn inverse(
     input: &[f32],
     output: &mut [f32],
     scratch: &mut [f32],
-    stage: &[f32],
-    end: &[f32],
+    stage_twiddles: &[f32],
+    end_twiddles: &[f32],
 )
-    requires { ⌜ Invertible plan width (length (now input)) (length (now output)) (length (now scratch)) (length (now stage)) (length (now end)) ⌝ }
-    ensures { λ _. ⌜ now (output .exit) ≡ inverseOf plan width (now (stage .entry)) (now (end .entry)) (now (input .entry)) (now (scratch .entry)) (length (now (output .entry))) .0 ⌝ }
-    ensures { λ _. ⌜ now (scratch .exit) ≡ inverseOf plan width (now (stage .entry)) (now (end .entry)) (now (input .entry)) (now (scratch .entry)) (length (now (output .entry))) .1 ⌝ }
+    requires { ⌜ Invertible plan width (length (now input)) (length (now output)) (length (now scratch)) (length (now «stage_twiddles»)) (length (now «end_twiddles»)) ⌝ }
+    ensures { λ _. ⌜ now (output .exit) ≡ inverseOf plan width (now («stage_twiddles» .entry)) (now («end_twiddles» .entry)) (now (input .entry)) (now (scratch .entry)) (length (now (output .entry))) .0 ⌝ }
+    ensures { λ _. ⌜ now (scratch .exit) ≡ inverseOf plan width (now («stage_twiddles» .entry)) (now («end_twiddles» .entry)) (now (input .entry)) (now (scratch .entry)) (length (now (output .entry))) .1 ⌝ }
 {
-    invert(plan, width, input, output, scratch, stage, end);
+    invert(
+        plan,
+        width,
+        input,
+        output,
+        scratch,
+        stage_twiddles,
+        end_twiddles,
+    );
     fetch(Buffer::Data, scratch, output, plan.half);
     let words = 2 * plan.half;
     clear(&mut output[words..]);

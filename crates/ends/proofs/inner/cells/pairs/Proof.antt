@@ -1,86 +1,88 @@
 -- `ends::inner::cells::pairs` meets its contract. Assumes nothing.
 use mathlib.Core.Path.{_≡_, refl, _∙_}
-use mathlib.Core.List.{List}
-use Prim.Native.Nat.{_-_, _≤_, _<_}
+use mathlib.Core.Logic.{⊎-elim}
+use Prim.Native.Nat.{_+_, _-_, _/_, _≤_, _<_}
 use native.Mathlib.Omega.{arith}
-use lib.Ieee.{Float}
 use lib.ListN.{length}
 use borrow.Author.Needs.{needs}
 use Rattle.ends.specs.Ends.{stepsOf}
 use Rattle.ends.specs.Parts.{Stepped}
-use Rattle.ends.proofs.Cells.{stepped-pair}
 use Rattle.ends.proofs.inner.cells.pairs.Statement.{statement}
 use Rattle.ends.proofs.inner.cells.pairs.Tie as tie
 
 abbrev Inv-loop : tie.InvT-loop
-Inv-loop cells₀ twiddles h forward k₀ cells k =
-    (0 < k) × (k ≤ 4096) × (length cells ≡ length cells₀) × ((xs : List Float) → Stepped (stepsOf forward) h twiddles xs cells₀ 1 → Stepped (stepsOf forward) h twiddles xs cells k)
+Inv-loop cells twiddles out₀ h forward ahead₀ back₀ end k₀ out ahead back k =
+    ((0 < k) × (k ≤ 4096) × (length out ≡ length out₀) × (Stepped (stepsOf forward) h twiddles cells out₀ 1 → Stepped (stepsOf forward) h twiddles cells out k))
+    × (length ahead ≡ 64)
+    × (length back ≡ 64)
 
 abbrev μ-loop : tie.MeasureT-loop
-μ-loop cells₀ twiddles h forward k₀ cells k = h - k
+μ-loop cells twiddles out₀ h forward ahead₀ back₀ end k₀ out ahead back k = end - k
+
+add-end : tie.Need-add-end Inv-loop μ-loop
+add-end c = search needs
 
 loop-holds : tie.Need-loop-holds Inv-loop μ-loop
-loop-holds c = (omega arith, omega arith, refl, λ xs s. s)
+loop-holds c = ((omega arith, omega arith, refl, λ s. s), refl, refl)
 
-mul-loop : tie.Need-mul-loop Inv-loop μ-loop
-mul-loop c = search needs
+sub-left : tie.Need-sub-left Inv-loop μ-loop
+sub-left c = search needs
 
-get-requires : tie.Need-get-requires Inv-loop μ-loop
-get-requires c κs = omega (arith, c .before .before .loop .inv .2, c .before .before .before .before .before .pre .long, c .before .loop-test .taken)
+-- how many pairs a turn takes
+taken : (c : tie.Joined1 Inv-loop μ-loop) → (0 < c .if1 .len) × (c .if1 .len ≤ 32) × (c .before .before .loop .k + c .if1 .len ≤ (c .before .before .before .before .before .before .args .h + 1) / 2)
+taken c =
+    let lt = c .before .loop-test .taken in
+    ⊎-elim
+    (λ w. (omega (arith, w .1, lt), omega (arith, w .0 .taken, w .1), omega (arith, w .1, lt)))
+    (λ w. (omega (arith, w .1), omega (arith, w .1), omega (arith, w .0 .left, w .1, lt)))
+    (c .if1 .came)
 
-sub-get : tie.Need-sub-get Inv-loop μ-loop
-sub-get c = search needs
+slice-aggregate-step : tie.Need-slice-aggregate-step Inv-loop μ-loop
+slice-aggregate-step c = search needs
 
-get-requires-2 : tie.Need-get-requires-2 Inv-loop μ-loop
-get-requires-2 c κs = omega (arith, c .before .before .before .before .loop .inv .2, c .before .before .before .before .before .before .before .pre .long, c .before .before .before .loop-test .taken)
+slice-aggregate-step-2 : tie.Need-slice-aggregate-step-2 Inv-loop μ-loop
+slice-aggregate-step-2 c = search needs
 
-sub-get-2 : tie.Need-sub-get-2 Inv-loop μ-loop
-sub-get-2 c = search needs
-
-get-requires-3 : tie.Need-get-requires-3 Inv-loop μ-loop
-get-requires-3 c κs = omega (arith, c .before .before .before .before .before .before .before .before .pre .lent (c .before .before .before .before .before .loop .k) (c .before .before .before .before .loop-test .taken), c .before .before .before .before .before .loop .inv .0)
-
-sub-put-both : tie.Need-sub-put-both Inv-loop μ-loop
-sub-put-both c = search needs
-
-near-requires : tie.Need-near-requires Inv-loop μ-loop
-near-requires c κs = search needs
-
-far-requires : tie.Need-far-requires Inv-loop μ-loop
-far-requires c κs = search needs
-
-put-both-requires : tie.Need-put-both-requires Inv-loop μ-loop
-put-both-requires c κs =
-    let l = c .before .before .before .before .before .before .before .before .before .loop in
-    let s = c .before .before .before .before .before .before .before .before .before .before .before .before in
-    (omega (arith, l .inv .2, s .pre .long, c .before .before .before .before .before .before .before .before .loop-test .taken), omega (arith, l .inv .2, s .pre .long, c .before .before .before .before .before .before .before .before .loop-test .taken))
+step-requires : tie.Need-step-requires Inv-loop μ-loop
+step-requires c κs =
+    let s = c .before .before .before .before .before .before .before .before .before in
+    let l = c .before .before .before .before .before .loop in
+    let t = taken (c .before .before .before) in (
+      record {
+        some = l .inv .0 .0;
+        few = s .pre .0 .few;
+        short = t .1;
+        room = omega (arith, t .2);
+        long = s .pre .1;
+        lent = s .pre .0 .lent;
+        ahead = l .inv .1;
+        back = l .inv .2;
+      },
+      l .inv .0 .2 ∙ s .pre .0 .long,
+    )
 
 add-k : tie.Need-add-k Inv-loop μ-loop
-add-k c = search needs
+add-k c = omega (arith, taken (c .before .before .before .before .before .before .before .before .before) .2, c .before .before .before .before .before .before .before .before .before .before .before .before .before .before .before .pre .0 .few)
 
 loop-less : tie.Need-loop-less Inv-loop μ-loop
-loop-less c = search needs
+loop-less c = omega (arith, taken (c .before .before .before .before .before .before .before .before .before) .0, taken (c .before .before .before .before .before .before .before .before .before) .2)
 
 loop-again : tie.Need-loop-again Inv-loop μ-loop
 loop-again c =
-    let l = c .before .before .before .before .before .before .before .before .before .before .before .before .loop in
     let s = c .before .before .before .before .before .before .before .before .before .before .before .before .before .before .before in
-    let lt = c .before .before .before .before .before .before .before .before .before .before .before .loop-test .taken in
-    let a = c .before .before .before .before .before .before .before .before .before .get .ensures in
-    let b = c .before .before .before .before .before .before .before .get2 .ensures in
-    let t = c .before .before .before .before .before .before .get3 .ensures in (
-      omega arith,
-      omega (arith, lt, s .pre .few),
-      c .before .before .put-both .kept .0 ∙ l .inv .2,
-      λ xs p.
-          stepped-pair (stepsOf (s .args .forward)) (s .args .h) (s .args .twiddles .now) xs (l .cells) (l .k) (l .inv .3 xs p) lt _ _ _ (c .before .before .before .before .near .ensures ∙ rw (a, b, t)) (c .before .before .before .far .ensures ∙ rw (a, b, t)) (c .before .before .put-both .ensures),
+    let l = c .before .before .before .before .before .before .before .before .before .before .before .loop in
+    let t = taken (c .before .before .before .before .before .before .before .before .before) in
+    let q = c .before .before .before .before .before .step in (
+      (omega (arith, t .0), omega (arith, t .2, s .pre .0 .few), q .kept .1 .1 .1 .1 .0 ∙ l .inv .0 .2, λ p. q .ensures (l .inv .0 .3 p)),
+      q .kept .1 .1 .0 ∙ l .inv .1,
+      q .kept .1 .1 .1 .0 ∙ l .inv .2,
     )
 
 same-length : tie.Need-same-length Inv-loop μ-loop
-same-length c = c .before .loop .inv .2
+same-length c = c .before .loop .inv .0 .2
 
 returns : tie.Need-returns Inv-loop μ-loop
-returns c = (c .loop-test .left, c .before .loop .inv .1, c .before .loop .inv .3)
+returns c = let l = c .before .loop in (omega (arith, c .loop-test .left), l .inv .0 .1, l .inv .0 .3)
 
 pub pairs-spec : {M : Type 1} → statement M
 pairs-spec =
@@ -88,17 +90,12 @@ pairs-spec =
     (tie.spec
     Inv-loop
     μ-loop
+    add-end
     loop-holds
-    mul-loop
-    get-requires
-    sub-get
-    get-requires-2
-    sub-get-2
-    get-requires-3
-    sub-put-both
-    near-requires
-    far-requires
-    put-both-requires
+    sub-left
+    slice-aggregate-step
+    slice-aggregate-step-2
+    step-requires
     add-k
     loop-less
     loop-again

@@ -2,36 +2,32 @@
 use mathlib.Core.Bool.{true, false≢true}
 use mathlib.Core.Logic.{⊎-elim}
 use borrow.Author.Needs.{needs}
-use Prim.Native.Nat.{ℕ, _≤_, _+_, _-_}
+use Prim.Native.Nat.{_≤_, _+_, _-_}
 use mathlib.Core.Path.{_≡_, sym, subst, _∙_}
-use native.Mathlib.Nat.{add-zero}
 use native.Mathlib.Omega.{arith}
 use borrow.Author.Tests.{not-false}
-use Rattle.floats.specs.Scan.{Passed}
-use Rattle.floats.proofs.Scan.{pass-on}
+use Rattle.floats.specs.Scan.{SquaresTell, AllWithin}
+use Rattle.floats.proofs.Scan.{within-next}
 use Rattle.floats.proofs.inner.scan.all_within.Statement.{statement}
 use Rattle.floats.proofs.inner.scan.all_within.Tie as tie
 
 abbrev Inv-loop : tie.InvT-loop
-Inv-loop xs i b all₀ k₀ all k = (k ≤ 16) × (all ≡ true → Passed b xs i → Passed b xs (i + k))
+Inv-loop xs i b bb all₀ k₀ all k = (k ≤ 64) × (all ≡ true → SquaresTell b → AllWithin b xs i k)
 
 abbrev μ-loop : tie.MeasureT-loop
-μ-loop xs i b all₀ k₀ all k = 16 - k
+μ-loop xs i b bb all₀ k₀ all k = 64 - k
 
 loop-holds : tie.Need-loop-holds Inv-loop μ-loop
-loop-holds c = (search needs, λ t p. subst (Passed (c .before .args .b) (c .before .args .xs .now)) (sym (add-zero (c .before .args .i))) p)
+loop-holds c = (search needs, λ t q k l. absurd (omega arith))
 
-add-within : tie.Need-add-within Inv-loop μ-loop
-add-within c = search needs
+add-x : tie.Need-add-x Inv-loop μ-loop
+add-x c = search needs
 
-mul-within : tie.Need-mul-within Inv-loop μ-loop
-mul-within c = search needs
+mul-x : tie.Need-mul-x Inv-loop μ-loop
+mul-x c = search needs
 
-shared-slice-read-within : tie.Need-shared-slice-read-within Inv-loop μ-loop
-shared-slice-read-within c = search needs
-
-within-requires : tie.Need-within-requires Inv-loop μ-loop
-within-requires c κs = search needs
+shared-slice-read-x : tie.Need-shared-slice-read-x Inv-loop μ-loop
+shared-slice-read-x c = search needs
 
 add-k : tie.Need-add-k Inv-loop μ-loop
 add-k c = search needs
@@ -41,21 +37,21 @@ loop-less c = search needs
 
 loop-again : tie.Need-loop-again Inv-loop μ-loop
 loop-again c =
-    let a = c .before .before .before .before .before .before .args in
-    let l = c .before .before .before .before .loop in (
+    let a = c .before .before .before .before .args in
+    let l = c .before .before .before .loop in (
       search needs,
-      λ t p. ⊎-elim
+      λ t q. ⊎-elim
           (λ w. absurd (false≢true (sym (w .1) ∙ t)))
-          (λ w. pass-on (a .b) (a .xs .now) (a .i) (l .k) (search needs) (sym (c .before .within .ensures) ∙ not-false _ (w .0 .left)) (l .inv .1 (sym (w .1) ∙ t) p))
+          (λ w. within-next (a .b) (a .xs .now) (a .i) (l .k) (q _ (c .before .shared-slice-known .given (a .i + l .k)) (not-false _ (w .0 .left))) (l .inv .1 (sym (w .1) ∙ t) q))
           (c .if1 .came),
     )
 
 returns : tie.Need-returns Inv-loop μ-loop
 returns c =
-    let a = c .before .before .before .args in
+    let a = c .before .before .args in
     let l = c .before .loop in
-    let e : l .k ≡ 16 = omega (arith, l .inv .0, c .loop-test .left) in
-    λ t p. subst (λ (k : ℕ). Passed (a .b) (a .xs .now) (a .i + k)) e (l .inv .1 t p)
+    let e : l .k ≡ 64 = omega (arith, l .inv .0, c .loop-test .left) in
+    λ t q. subst (AllWithin (a .b) (a .xs .now) (a .i)) e (l .inv .1 t q)
 
 pub all-within-spec : {M : Type 1} → statement M
 all-within-spec =
@@ -64,10 +60,9 @@ all-within-spec =
     Inv-loop
     μ-loop
     loop-holds
-    add-within
-    mul-within
-    shared-slice-read-within
-    within-requires
+    add-x
+    mul-x
+    shared-slice-read-x
     add-k
     loop-less
     loop-again

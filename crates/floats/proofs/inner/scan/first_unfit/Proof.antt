@@ -1,25 +1,38 @@
 -- `floats::inner::scan::first_unfit` meets its contract. Assumes nothing.
 use borrow.Author.Tests.{not-true, not-false}
-use Rattle.floats.specs.Scan.{within, Passed}
-use Rattle.floats.proofs.Scan.{first-pass, first-fail, first-end, first-unfit}
+use Rattle.floats.specs.Scan.{within, bound, Passed}
+use Rattle.floats.proofs.Scan.{first-pass, first-fail, first-end, first-unfit, power-below}
+use Rattle.floats.proofs.Squares.{squares-tell}
 use lib.ListN.{length}
-use Prim.Native.Nat.{_≤_, _-_}
-use mathlib.Core.Path.{sym, _∙_}
+use Prim.Native.Nat.{ℕ, _≤_, _-_}
+use native.Mathlib.Nat.{zero-add}
+use native.Mathlib.Omega.{arith}
+use mathlib.Core.Logic.{⊎-elim}
+use mathlib.Core.Path.{_≡_, sym, subst, _∙_}
 use borrow.Author.Needs.{needs}
 use Rattle.floats.proofs.inner.scan.first_unfit.Statement.{statement}
 use Rattle.floats.proofs.inner.scan.first_unfit.Tie as tie
 
 abbrev Inv-loop : tie.InvT-loop
-Inv-loop xs b i₀ i = (i ≤ length xs) × Passed b xs i
+Inv-loop xs b i₀ i = (i ≤ length xs) × ((k : ℕ) → b ≡ bound k → Passed b xs i)
 
 abbrev μ-loop : tie.MeasureT-loop
 μ-loop xs b i₀ i = length xs - i
 
-passed-requires : tie.Need-passed-requires Inv-loop μ-loop
-passed-requires c κs = search needs
+passed-to-end-requires : tie.Need-passed-to-end-requires Inv-loop μ-loop
+passed-to-end-requires c κs = search needs
 
 loop-holds : tie.Need-loop-holds Inv-loop μ-loop
-loop-holds c = (c .passed .ensures .0, c .passed .ensures .1)
+loop-holds c =
+    let a = c .before .before .args in
+    ⊎-elim
+    (λ w. (
+      omega (arith, w .1 .ensures .0, w .2),
+      λ k e. subst (Passed (a .b) (a .xs .now)) (sym (w .2))
+          (w .1 .ensures .1 (rw e (squares-tell k (omega (arith, power-below (a .b) k e (w .0 .taken)))))),
+    ))
+    (λ w. (omega (arith, w .1), λ k e. subst (Passed (a .b) (a .xs .now)) (sym (w .1)) (sym (zero-add _))))
+    (c .if1 .came)
 
 mul-within : tie.Need-mul-within Inv-loop μ-loop
 mul-within c = search needs
@@ -38,21 +51,21 @@ loop-less c = search needs
 
 loop-again : tie.Need-loop-again Inv-loop μ-loop
 loop-again c =
-    let l = c .before .before .before .before .loop in
-    let a = c .before .before .before .before .before .before .before .args in
-    (search needs, first-pass (within (a .b)) (a .xs .now) (l .i) (search needs) (sym (c .before .within .ensures) ∙ not-false _ (c .if2 .left)) (l .inv .1))
+    let l = c .before .before .before .before .before .loop in
+    let a = c .before .before .before .before .before .before .before .before .args in
+    (search needs, λ k e. first-pass (within (a .b)) (a .xs .now) (l .i) (search needs) (sym (c .before .within .ensures) ∙ not-false _ (c .if3 .left)) (l .inv .1 k e))
 
 returns : tie.Need-returns Inv-loop μ-loop
 returns c =
     let a = c .before .before .before .before .args in
     let l = c .before .loop in
-    first-unfit (a .b) (a .xs .now) _ (sym (first-end (within (a .b)) (a .xs .now) (l .i) (search needs) (search needs) (l .inv .1)))
+    λ k e. first-unfit (a .b) (a .xs .now) _ (sym (first-end (within (a .b)) (a .xs .now) (l .i) (search needs) (search needs) (l .inv .1 k e))) k e
 
 returns-2 : tie.Need-returns-2 Inv-loop μ-loop
 returns-2 c =
-    let l = c .before .before .before .before .loop in
-    let a = c .before .before .before .before .before .before .before .args in
-    first-unfit (a .b) (a .xs .now) _ (sym (first-fail (within (a .b)) (a .xs .now) (l .i) (search needs) (sym (c .before .within .ensures) ∙ not-true _ (c .if2 .taken)) (l .inv .1)))
+    let l = c .before .before .before .before .before .loop in
+    let a = c .before .before .before .before .before .before .before .before .args in
+    λ k e. first-unfit (a .b) (a .xs .now) _ (sym (first-fail (within (a .b)) (a .xs .now) (l .i) (search needs) (sym (c .before .within .ensures) ∙ not-true _ (c .if3 .taken)) (l .inv .1 k e))) k e
 
 pub first-unfit-spec : {M : Type 1} → statement M
 first-unfit-spec =
@@ -60,7 +73,7 @@ first-unfit-spec =
     (tie.spec
     Inv-loop
     μ-loop
-    passed-requires
+    passed-to-end-requires
     loop-holds
     mul-within
     shared-slice-read-within

@@ -6,18 +6,19 @@ use native.Mathlib.Omega.{arith}
 use borrow.Author.Tests.{not-false}
 use lib.ListN.{length}
 use borrow.Author.Needs.{needs}
-use Rattle.floats.specs.Scan.{Passed}
+use Rattle.floats.specs.Scan.{SquaresTell, Passed}
+use Rattle.floats.proofs.Scan.{pass-all}
 use Rattle.floats.proofs.inner.scan.passed.Statement.{statement}
 use Rattle.floats.proofs.inner.scan.passed.Tie as tie
 
 abbrev Inv-loop : tie.InvT-loop
-Inv-loop xs b i₀ left₀ i left = (i + 16 * left ≤ length xs) × Passed b xs i
+Inv-loop xs b i₀ left₀ i left = (i + 64 * left ≤ length xs) × (SquaresTell b → Passed b xs i)
 
 abbrev μ-loop : tie.MeasureT-loop
 μ-loop xs b i₀ left₀ i left = left
 
 loop-holds : tie.Need-loop-holds Inv-loop μ-loop
-loop-holds c = (search needs, sym (zero-add _))
+loop-holds c = (search needs, λ q. sym (zero-add _))
 
 all-within-requires : tie.Need-all-within-requires Inv-loop μ-loop
 all-within-requires c κs = search needs
@@ -33,8 +34,10 @@ loop-less c = search needs
 
 loop-again : tie.Need-loop-again Inv-loop μ-loop
 loop-again c =
-    let l = c .before .before .before .loop in
-    (omega (arith, l .inv .0, c .before .before .if1 .left), c .before .all-within .ensures (not-false _ (c .if2 .left)) (l .inv .1))
+    let l = c .before .before .before .loop in (
+      omega (arith, l .inv .0, c .before .before .if1 .left),
+      λ q. pass-all _ _ (l .i) 64 (omega (arith, l .inv .0, c .before .before .if1 .left)) (c .before .all-within .ensures (not-false _ (c .if2 .left)) q) (l .inv .1 q),
+    )
 
 returns : tie.Need-returns Inv-loop μ-loop
 returns c = let l = c .before .loop in (omega (arith, l .inv .0), l .inv .1)

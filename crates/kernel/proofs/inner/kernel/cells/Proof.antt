@@ -14,12 +14,12 @@ use Rattle.kernel.proofs.inner.kernel.cells.Statement.{statement}
 use Rattle.kernel.proofs.inner.kernel.cells.Tie as tie
 
 abbrev Inv-loop : tie.InvT-loop
-Inv-loop src tw i j m r first c₀ q₀ c q =
+Inv-loop src tw i j a b m r first c₀ q₀ c q =
     (0 < q) × (q ≤ r) × (length c ≡ 8)
-    × ((lent : ℕ → ℕ → Complex) → (first ≡ false → (k : ℕ) → 0 < k → k < r → cell tw (j * (r - 1) + (k - 1)) ≡ lent i k) → (k : ℕ) → k < q → getD c k blank ≡ readOf first m src lent i k)
+    × ((lent : ℕ → ℕ → Complex) → (first ≡ false → (k : ℕ) → 0 < k → k < r → cell tw (j * a + (k - 1) * b) ≡ lent i k) → (k : ℕ) → k < q → getD c k blank ≡ readOf first m src lent i k)
 
 abbrev μ-loop : tie.MeasureT-loop
-μ-loop src tw i j m r first c₀ q₀ c q = r - q
+μ-loop src tw i j a b m r first c₀ q₀ c q = r - q
 
 get-requires : tie.Need-get-requires Inv-loop μ-loop
 get-requires c κs = omega (arith, cell-room (c .before .before .args .i) 0 (c .before .before .args .m) (c .before .before .args .r) _ (omega arith) (omega arith) (c .before .before .pre .0 .source))
@@ -37,20 +37,20 @@ add-get c = omega (arith, cell-room (c .before .before .before .before .before .
 get-requires-2 : tie.Need-get-requires-2 Inv-loop μ-loop
 get-requires-2 c κs = cell-room (c .before .before .before .before .before .args .i) (c .before .loop .q) (c .before .before .before .before .before .args .m) (c .before .before .before .before .before .args .r) _ (omega arith) (omega arith) (c .before .before .before .before .before .pre .0 .source)
 
+mul-get-2 : tie.Need-mul-get-2 Inv-loop μ-loop
+mul-get-2 c = omega (arith, c .before .before .before .before .before .before .before .pre .2 (c .if1 .left) (c .before .before .before .loop .q) (omega arith) (omega arith))
+
 sub-get : tie.Need-sub-get Inv-loop μ-loop
 sub-get c = search needs
 
-mul-get-2 : tie.Need-mul-get-2 Inv-loop μ-loop
-mul-get-2 c = omega (arith, c .before .before .before .before .before .before .before .pre .2 (c .if1 .left))
-
-sub-get-2 : tie.Need-sub-get-2 Inv-loop μ-loop
-sub-get-2 c = search needs
+mul-get-3 : tie.Need-mul-get-3 Inv-loop μ-loop
+mul-get-3 c = omega (arith, c .before .before .before .before .before .before .before .pre .2 (c .if1 .left) (c .before .before .before .loop .q) (omega arith) (omega arith))
 
 add-get-2 : tie.Need-add-get-2 Inv-loop μ-loop
-add-get-2 c = omega (arith, c .before .before .before .before .before .before .before .pre .2 (c .if1 .left))
+add-get-2 c = omega (arith, c .before .before .before .before .before .before .before .pre .2 (c .if1 .left) (c .before .before .before .loop .q) (omega arith) (omega arith))
 
 get-requires-3 : tie.Need-get-requires-3 Inv-loop μ-loop
-get-requires-3 c κs = omega (arith, c .before .before .before .before .before .before .before .pre .2 (c .if1 .left))
+get-requires-3 c κs = c .before .before .before .before .before .before .before .pre .2 (c .if1 .left) (c .before .before .before .loop .q) (omega arith) (omega arith)
 
 mul-requires : tie.Need-mul-requires Inv-loop μ-loop
 mul-requires c κs = search needs
@@ -97,9 +97,9 @@ cells-spec =
     mul-get
     add-get
     get-requires-2
-    sub-get
     mul-get-2
-    sub-get-2
+    sub-get
+    mul-get-3
     add-get-2
     get-requires-3
     mul-requires

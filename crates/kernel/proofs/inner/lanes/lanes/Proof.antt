@@ -28,7 +28,7 @@ add-k : tie.Need-add-k Inv-loop μ-loop
 add-k c = search needs
 
 cells-requires : tie.Need-cells-requires Inv-loop μ-loop
-cells-requires c κs = (sized-at 2 (c .match .keys1) (c .before .before .before .before .before .before .before .pre .0), omega arith, λ e. lane-room-at (c .before .before .loop .j) (c .before .before .before .before .before .before .before .args .r) 2 _ (c .match .keys1) (omega arith) (c .before .before .before .before .before .before .before .pre .3))
+cells-requires c κs = (sized-at 2 (c .match .keys1) (c .before .before .before .before .before .before .before .pre .0), omega arith, λ e. lane-room-at (c .before .before .loop .j) (c .before .before .before .before .before .before .before .args .r) 2 _ _ (c .match .keys1) (omega arith) (c .before .before .before .before .before .before .before .pre .3))
 
 outputs-requires : tie.Need-outputs-requires Inv-loop μ-loop
 unfolding isRadix
@@ -38,7 +38,7 @@ save-requires : tie.Need-save-requires Inv-loop μ-loop
 save-requires c κs = search needs
 
 cells-requires-2 : tie.Need-cells-requires-2 Inv-loop μ-loop
-cells-requires-2 c κs = (sized-at 3 (c .match .keys2) (c .before .before .before .before .before .before .before .pre .0), omega arith, λ e. lane-room-at (c .before .before .loop .j) (c .before .before .before .before .before .before .before .args .r) 3 _ (c .match .keys2) (omega arith) (c .before .before .before .before .before .before .before .pre .3))
+cells-requires-2 c κs = (sized-at 3 (c .match .keys2) (c .before .before .before .before .before .before .before .pre .0), omega arith, λ e. lane-room-at (c .before .before .loop .j) (c .before .before .before .before .before .before .before .args .r) 3 _ _ (c .match .keys2) (omega arith) (c .before .before .before .before .before .before .before .pre .3))
 
 outputs-requires-2 : tie.Need-outputs-requires-2 Inv-loop μ-loop
 unfolding isRadix
@@ -48,7 +48,7 @@ save-requires-2 : tie.Need-save-requires-2 Inv-loop μ-loop
 save-requires-2 c κs = search needs
 
 cells-requires-3 : tie.Need-cells-requires-3 Inv-loop μ-loop
-cells-requires-3 c κs = (sized-at 4 (c .match .keys3) (c .before .before .before .before .before .before .before .pre .0), omega arith, λ e. lane-room-at (c .before .before .loop .j) (c .before .before .before .before .before .before .before .args .r) 4 _ (c .match .keys3) (omega arith) (c .before .before .before .before .before .before .before .pre .3))
+cells-requires-3 c κs = (sized-at 4 (c .match .keys3) (c .before .before .before .before .before .before .before .pre .0), omega arith, λ e. lane-room-at (c .before .before .loop .j) (c .before .before .before .before .before .before .before .args .r) 4 _ _ (c .match .keys3) (omega arith) (c .before .before .before .before .before .before .before .pre .3))
 
 outputs-requires-3 : tie.Need-outputs-requires-3 Inv-loop μ-loop
 unfolding isRadix
@@ -58,7 +58,7 @@ save-requires-3 : tie.Need-save-requires-3 Inv-loop μ-loop
 save-requires-3 c κs = search needs
 
 cells-requires-4 : tie.Need-cells-requires-4 Inv-loop μ-loop
-cells-requires-4 c κs = (sized-at 5 (c .match .keys4) (c .before .before .before .before .before .before .before .pre .0), omega arith, λ e. lane-room-at (c .before .before .loop .j) (c .before .before .before .before .before .before .before .args .r) 5 _ (c .match .keys4) (omega arith) (c .before .before .before .before .before .before .before .pre .3))
+cells-requires-4 c κs = (sized-at 5 (c .match .keys4) (c .before .before .before .before .before .before .before .pre .0), omega arith, λ e. lane-room-at (c .before .before .loop .j) (c .before .before .before .before .before .before .before .args .r) 5 _ _ (c .match .keys4) (omega arith) (c .before .before .before .before .before .before .before .pre .3))
 
 outputs-requires-4 : tie.Need-outputs-requires-4 Inv-loop μ-loop
 unfolding isRadix
@@ -68,7 +68,7 @@ save-requires-4 : tie.Need-save-requires-4 Inv-loop μ-loop
 save-requires-4 c κs = search needs
 
 cells-requires-5 : tie.Need-cells-requires-5 Inv-loop μ-loop
-cells-requires-5 c κs = (sized-at 7 (c .match .keys5) (c .before .before .before .before .before .before .before .pre .0), omega arith, λ e. lane-room-at (c .before .before .loop .j) (c .before .before .before .before .before .before .before .args .r) 7 _ (c .match .keys5) (omega arith) (c .before .before .before .before .before .before .before .pre .3))
+cells-requires-5 c κs = (sized-at 7 (c .match .keys5) (c .before .before .before .before .before .before .before .pre .0), omega arith, λ e. lane-room-at (c .before .before .loop .j) (c .before .before .before .before .before .before .before .args .r) 7 _ _ (c .match .keys5) (omega arith) (c .before .before .before .before .before .before .before .pre .3))
 
 outputs-requires-5 : tie.Need-outputs-requires-5 Inv-loop μ-loop
 unfolding isRadix
@@ -78,7 +78,7 @@ save-requires-5 : tie.Need-save-requires-5 Inv-loop μ-loop
 save-requires-5 c κs = search needs
 
 cells-requires-6 : tie.Need-cells-requires-6 Inv-loop μ-loop
-cells-requires-6 c κs = (sized-at 8 (eight (c .before .before .before .before .before .before .before .pre .0 .radix) (c .match .rest .0 .0 .0 .0 .1) (c .match .rest .0 .0 .0 .1) (c .match .rest .0 .0 .1) (c .match .rest .0 .1) (c .match .rest .1)) (c .before .before .before .before .before .before .before .pre .0), omega arith, λ e. lane-room-at (c .before .before .loop .j) (c .before .before .before .before .before .before .before .args .r) 8 _ (eight (c .before .before .before .before .before .before .before .pre .0 .radix) (c .match .rest .0 .0 .0 .0 .1) (c .match .rest .0 .0 .0 .1) (c .match .rest .0 .0 .1) (c .match .rest .0 .1) (c .match .rest .1)) (omega arith) (c .before .before .before .before .before .before .before .pre .3))
+cells-requires-6 c κs = (sized-at 8 (eight (c .before .before .before .before .before .before .before .pre .0 .radix) (c .match .rest .0 .0 .0 .0 .1) (c .match .rest .0 .0 .0 .1) (c .match .rest .0 .0 .1) (c .match .rest .0 .1) (c .match .rest .1)) (c .before .before .before .before .before .before .before .pre .0), omega arith, λ e. lane-room-at (c .before .before .loop .j) (c .before .before .before .before .before .before .before .args .r) 8 _ _ (eight (c .before .before .before .before .before .before .before .pre .0 .radix) (c .match .rest .0 .0 .0 .0 .1) (c .match .rest .0 .0 .0 .1) (c .match .rest .0 .0 .1) (c .match .rest .0 .1) (c .match .rest .1)) (omega arith) (c .before .before .before .before .before .before .before .pre .3))
 
 outputs-requires-6 : tie.Need-outputs-requires-6 Inv-loop μ-loop
 unfolding isRadix
@@ -105,12 +105,12 @@ loop-again c =
       size .1 ∙ l .inv .2,
       λ lent f.
           let w : Saved (outputOf false (a .m) (a .r) (a .src .now) lent (a .i + l .j)) (l .j) (a .r) (l .re) (l .im) (c .match .re) (c .match .im) =
-          ⊎-elim (λ w. later-arm false (a .m) (a .r) (a .src .now) lent (a .i + l .j) 2 (w .1 .result) (w .2 .result) (w .0 .keys1) (omega arith) (omega arith) (w .1 .ensures lent (λ e q lq. fetched-at (a .i) (a .len) (a .r) (a .tw .now) lent 2 (w .0 .keys1) f (l .j) q lj lq)) (w .2 .ensures) (l .j) (l .re) (l .im) (w .5 .last .1 .0) (w .5 .last .1 .1 .0) _ _ (w .5 .ensures) (w .10) (w .11))
-          (⊎-elim (λ w. later-arm false (a .m) (a .r) (a .src .now) lent (a .i + l .j) 3 (w .1 .result) (w .2 .result) (w .0 .keys2) (omega arith) (omega arith) (w .1 .ensures lent (λ e q lq. fetched-at (a .i) (a .len) (a .r) (a .tw .now) lent 3 (w .0 .keys2) f (l .j) q lj lq)) (w .2 .ensures) (l .j) (l .re) (l .im) (w .5 .last .1 .0) (w .5 .last .1 .1 .0) _ _ (w .5 .ensures) (w .10) (w .11))
-          (⊎-elim (λ w. later-arm false (a .m) (a .r) (a .src .now) lent (a .i + l .j) 4 (w .1 .result) (w .2 .result) (w .0 .keys3) (omega arith) (omega arith) (w .1 .ensures lent (λ e q lq. fetched-at (a .i) (a .len) (a .r) (a .tw .now) lent 4 (w .0 .keys3) f (l .j) q lj lq)) (w .2 .ensures) (l .j) (l .re) (l .im) (w .5 .last .1 .0) (w .5 .last .1 .1 .0) _ _ (w .5 .ensures) (w .10) (w .11))
-          (⊎-elim (λ w. later-arm false (a .m) (a .r) (a .src .now) lent (a .i + l .j) 5 (w .1 .result) (w .2 .result) (w .0 .keys4) (omega arith) (omega arith) (w .1 .ensures lent (λ e q lq. fetched-at (a .i) (a .len) (a .r) (a .tw .now) lent 5 (w .0 .keys4) f (l .j) q lj lq)) (w .2 .ensures) (l .j) (l .re) (l .im) (w .5 .last .1 .0) (w .5 .last .1 .1 .0) _ _ (w .5 .ensures) (w .10) (w .11))
-          (⊎-elim (λ w. later-arm false (a .m) (a .r) (a .src .now) lent (a .i + l .j) 7 (w .1 .result) (w .2 .result) (w .0 .keys5) (omega arith) (omega arith) (w .1 .ensures lent (λ e q lq. fetched-at (a .i) (a .len) (a .r) (a .tw .now) lent 7 (w .0 .keys5) f (l .j) q lj lq)) (w .2 .ensures) (l .j) (l .re) (l .im) (w .5 .last .1 .0) (w .5 .last .1 .1 .0) _ _ (w .5 .ensures) (w .10) (w .11))
-          (λ w. later-arm false (a .m) (a .r) (a .src .now) lent (a .i + l .j) 8 (w .1 .result) (w .2 .result) (eight (c .before .before .before .before .before .before .before .pre .0 .radix) (w .0 .rest .0 .0 .0 .0 .1) (w .0 .rest .0 .0 .0 .1) (w .0 .rest .0 .0 .1) (w .0 .rest .0 .1) (w .0 .rest .1)) (omega arith) (omega arith) (w .1 .ensures lent (λ e q lq. fetched-at (a .i) (a .len) (a .r) (a .tw .now) lent 8 (eight (c .before .before .before .before .before .before .before .pre .0 .radix) (w .0 .rest .0 .0 .0 .0 .1) (w .0 .rest .0 .0 .0 .1) (w .0 .rest .0 .0 .1) (w .0 .rest .0 .1) (w .0 .rest .1)) f (l .j) q lj lq)) (w .2 .ensures) (l .j) (l .re) (l .im) (w .5 .last .1 .0) (w .5 .last .1 .1 .0) _ _ (w .5 .ensures) (w .10) (w .11))))))
+          ⊎-elim (λ w. later-arm false (a .m) (a .r) (a .src .now) lent (a .i + l .j) 2 (w .1 .result) (w .2 .result) (w .0 .keys1) (omega arith) (omega arith) (w .1 .ensures lent (λ e q lo lq. fetched-at (a .i) (a .len) (a .r) (a .tw .now) lent 2 (w .0 .keys1) f (l .j) q lj lo lq)) (w .2 .ensures) (l .j) (l .re) (l .im) (w .5 .last .1 .0) (w .5 .last .1 .1 .0) _ _ (w .5 .ensures) (w .10) (w .11))
+          (⊎-elim (λ w. later-arm false (a .m) (a .r) (a .src .now) lent (a .i + l .j) 3 (w .1 .result) (w .2 .result) (w .0 .keys2) (omega arith) (omega arith) (w .1 .ensures lent (λ e q lo lq. fetched-at (a .i) (a .len) (a .r) (a .tw .now) lent 3 (w .0 .keys2) f (l .j) q lj lo lq)) (w .2 .ensures) (l .j) (l .re) (l .im) (w .5 .last .1 .0) (w .5 .last .1 .1 .0) _ _ (w .5 .ensures) (w .10) (w .11))
+          (⊎-elim (λ w. later-arm false (a .m) (a .r) (a .src .now) lent (a .i + l .j) 4 (w .1 .result) (w .2 .result) (w .0 .keys3) (omega arith) (omega arith) (w .1 .ensures lent (λ e q lo lq. fetched-at (a .i) (a .len) (a .r) (a .tw .now) lent 4 (w .0 .keys3) f (l .j) q lj lo lq)) (w .2 .ensures) (l .j) (l .re) (l .im) (w .5 .last .1 .0) (w .5 .last .1 .1 .0) _ _ (w .5 .ensures) (w .10) (w .11))
+          (⊎-elim (λ w. later-arm false (a .m) (a .r) (a .src .now) lent (a .i + l .j) 5 (w .1 .result) (w .2 .result) (w .0 .keys4) (omega arith) (omega arith) (w .1 .ensures lent (λ e q lo lq. fetched-at (a .i) (a .len) (a .r) (a .tw .now) lent 5 (w .0 .keys4) f (l .j) q lj lo lq)) (w .2 .ensures) (l .j) (l .re) (l .im) (w .5 .last .1 .0) (w .5 .last .1 .1 .0) _ _ (w .5 .ensures) (w .10) (w .11))
+          (⊎-elim (λ w. later-arm false (a .m) (a .r) (a .src .now) lent (a .i + l .j) 7 (w .1 .result) (w .2 .result) (w .0 .keys5) (omega arith) (omega arith) (w .1 .ensures lent (λ e q lo lq. fetched-at (a .i) (a .len) (a .r) (a .tw .now) lent 7 (w .0 .keys5) f (l .j) q lj lo lq)) (w .2 .ensures) (l .j) (l .re) (l .im) (w .5 .last .1 .0) (w .5 .last .1 .1 .0) _ _ (w .5 .ensures) (w .10) (w .11))
+          (λ w. later-arm false (a .m) (a .r) (a .src .now) lent (a .i + l .j) 8 (w .1 .result) (w .2 .result) (eight (c .before .before .before .before .before .before .before .pre .0 .radix) (w .0 .rest .0 .0 .0 .0 .1) (w .0 .rest .0 .0 .0 .1) (w .0 .rest .0 .0 .1) (w .0 .rest .0 .1) (w .0 .rest .1)) (omega arith) (omega arith) (w .1 .ensures lent (λ e q lo lq. fetched-at (a .i) (a .len) (a .r) (a .tw .now) lent 8 (eight (c .before .before .before .before .before .before .before .pre .0 .radix) (w .0 .rest .0 .0 .0 .0 .1) (w .0 .rest .0 .0 .0 .1) (w .0 .rest .0 .0 .1) (w .0 .rest .0 .1) (w .0 .rest .1)) f (l .j) q lj lo lq)) (w .2 .ensures) (l .j) (l .re) (l .im) (w .5 .last .1 .0) (w .5 .last .1 .1 .0) _ _ (w .5 .ensures) (w .10) (w .11))))))
           (c .match .came) in
           held-step (a .i) (l .j) (a .r) (outputOf false (a .m) (a .r) (a .src .now) lent) (l .re) (l .im) _ _ (omega arith) w (l .inv .3 lent f),
     )

@@ -1,5 +1,5 @@
 -- `kernel::inner::lanes::rows` meets its contract. Assumes nothing.
-use mathlib.Core.Path.{_≡_, refl, _∙_}
+use mathlib.Core.Path.{_≡_, refl, ap, _∙_}
 use Prim.Native.Nat.{ℕ, _+_, _-_, _*_, _≤_, _<_}
 use native.Mathlib.Omega.{arith}
 use borrow.Author.Needs.{needs}
@@ -7,52 +7,38 @@ use lib.ListN.{length}
 use Rattle.schedule.specs.Stage.{index}
 use Rattle.floats.specs.declared.complex.Complex.{Complex}
 use Rattle.kernel.specs.Parts.{lane, Done}
+use Rattle.kernel.proofs.Writes.{wrote-from}
 use Rattle.kernel.proofs.Places.{Rowed, rowed-none, rowed-step, row-room}
 use Rattle.kernel.proofs.inner.lanes.rows.Statement.{statement}
 use Rattle.kernel.proofs.inner.lanes.rows.Tie as tie
 
 abbrev Inv-loop : tie.InvT-loop
-Inv-loop re im j dst₀ i n s r at p₀ dst p =
+Inv-loop re im j dst₀ at i n s r p₀ dst p =
     (p ≤ r) × (length dst ≡ length dst₀)
     × ((v : ℕ → ℕ → Complex) → ((t q : ℕ) → t < n → q < r → lane re im (16 * q + j + t) ≡ v (i + t) q) → Done s r v dst₀ i → Rowed s r v dst i n p)
 
 abbrev μ-loop : tie.MeasureT-loop
-μ-loop re im j dst₀ i n s r at p₀ dst p = r - p
-
-div-at : tie.Need-div-at Inv-loop μ-loop
-div-at c = search needs
-
-mul-at : tie.Need-mul-at Inv-loop μ-loop
-mul-at c = search needs
-
-mul-at-2 : tie.Need-mul-at-2 Inv-loop μ-loop
-mul-at-2 c = search needs
-
-rem-at : tie.Need-rem-at Inv-loop μ-loop
-rem-at c = search needs
-
-add-at : tie.Need-add-at Inv-loop μ-loop
-add-at c = omega (arith, row-room (c .before .before .before .args .i) (c .before .before .before .args .n) (c .before .before .before .args .s) (c .before .before .before .args .r) (length (c .before .before .before .args .dst .now)) 0 (c .before .before .before .pre .0) (omega arith))
+μ-loop re im j dst₀ at i n s r p₀ dst p = r - p
 
 loop-holds : tie.Need-loop-holds Inv-loop μ-loop
 loop-holds c =
     let a = c .before .before .before .args in
     (omega arith, refl, λ v held done. rowed-none (a .s) (a .r) (a .i) (a .n) v (a .dst .now) done)
 
-mul-row : tie.Need-mul-row Inv-loop μ-loop
-mul-row c = search needs
+mul-piece : tie.Need-mul-piece Inv-loop μ-loop
+mul-piece c = search needs
 
-add-row : tie.Need-add-row Inv-loop μ-loop
-add-row c = search needs
+add-piece : tie.Need-add-piece Inv-loop μ-loop
+add-piece c = search needs
 
-mul-row-2 : tie.Need-mul-row-2 Inv-loop μ-loop
-mul-row-2 c = omega (arith, row-room (c .before .before .before .before .before .before .args .i) (c .before .before .before .before .before .before .args .n) (c .before .before .before .before .before .before .args .s) (c .before .before .before .before .before .before .args .r) (length (c .before .before .before .before .before .before .args .dst .now)) (c .before .before .loop .p) (c .before .before .before .before .before .before .pre .0) (omega arith))
+mul-piece-2 : tie.Need-mul-piece-2 Inv-loop μ-loop
+mul-piece-2 c = omega (arith, row-room (c .before .before .before .before .before .before .args .i) (c .before .before .before .before .before .before .args .n) (c .before .before .before .before .before .before .args .s) (c .before .before .before .before .before .before .args .r) (length (c .before .before .before .before .before .before .args .dst .now)) (c .before .before .loop .p) (c .before .before .before .before .before .before .pre .0) (omega arith))
 
-add-row-2 : tie.Need-add-row-2 Inv-loop μ-loop
-add-row-2 c = omega (arith, row-room (c .before .before .before .before .before .before .args .i) (c .before .before .before .before .before .before .args .n) (c .before .before .before .before .before .before .args .s) (c .before .before .before .before .before .before .args .r) (length (c .before .before .before .before .before .before .args .dst .now)) (c .before .before .loop .p) (c .before .before .before .before .before .before .pre .0) (omega arith))
+add-piece-2 : tie.Need-add-piece-2 Inv-loop μ-loop
+add-piece-2 c = omega (arith, row-room (c .before .before .before .before .before .before .args .i) (c .before .before .before .before .before .before .args .n) (c .before .before .before .before .before .before .args .s) (c .before .before .before .before .before .before .args .r) (length (c .before .before .before .before .before .before .args .dst .now)) (c .before .before .loop .p) (c .before .before .before .before .before .before .pre .0) (omega arith))
 
-row-requires : tie.Need-row-requires Inv-loop μ-loop
-row-requires c κs = (omega arith, omega arith, omega arith, omega (arith, row-room (c .before .before .before .before .before .before .args .i) (c .before .before .before .before .before .before .args .n) (c .before .before .before .before .before .before .args .s) (c .before .before .before .before .before .before .args .r) (length (c .before .before .before .before .before .before .args .dst .now)) (c .before .before .loop .p) (c .before .before .before .before .before .before .pre .0) (omega arith), c .before .before .loop .inv .1))
+piece-requires : tie.Need-piece-requires Inv-loop μ-loop
+piece-requires c κs = (c .before .before .before .before .before .before .pre .2, omega arith, omega arith, omega arith, omega arith, omega (arith, row-room (c .before .before .before .before .before .before .args .i) (c .before .before .before .before .before .before .args .n) (c .before .before .before .before .before .before .args .s) (c .before .before .before .before .before .before .args .r) (length (c .before .before .before .before .before .before .args .dst .now)) (c .before .before .loop .p) (c .before .before .before .before .before .before .pre .0) (omega arith), c .before .before .loop .inv .1))
 
 add-p : tie.Need-add-p Inv-loop μ-loop
 add-p c = search needs
@@ -66,12 +52,13 @@ loop-again c =
     let a = c .before .before .before .before .before .before .before .before .before .args in
     let b = c .before .before .before .before .before .before .before .before .before .pre .0 in
     let l = c .before .before .before .before .before .loop in
-    let row = c .before .before .row in
-    let lp : l .p < a .r = omega arith in (
+    let piece = c .before .before .piece in
+    let lp : l .p < a .r = omega arith in
+    let here = wrote-from _ _ _ (ap (λ (k : ℕ). k + l .p * a .s) (c .before .before .before .before .before .before .before .before .before .pre .1)) (piece .ensures) in (
       omega arith,
-      row .ensures .size ∙ l .inv .1,
+      piece .ensures .size ∙ l .inv .1,
       λ v held done.
-          rowed-step (a .s) (a .r) (a .i) (a .n) v (b .stride) (b .one) (l .p) lp _ (l .dst) (row .last .1 .1 .1 .0) (row .ensures) (λ t lt. held t (l .p) lt lp) (l .inv .2 v held done),
+          rowed-step (a .s) (a .r) (a .i) (a .n) v (b .stride) (b .one) (l .p) lp _ (l .dst) (piece .last .1 .1 .1 .0) here (λ t lt. held t (l .p) lt lp) (l .inv .2 v held done),
     )
 
 same-length : tie.Need-same-length Inv-loop μ-loop
@@ -87,17 +74,12 @@ rows-spec =
     (tie.spec
     Inv-loop
     μ-loop
-    div-at
-    mul-at
-    mul-at-2
-    rem-at
-    add-at
     loop-holds
-    mul-row
-    add-row
-    mul-row-2
-    add-row-2
-    row-requires
+    mul-piece
+    add-piece
+    mul-piece-2
+    add-piece-2
+    piece-requires
     add-p
     loop-less
     loop-again

@@ -1,88 +1,85 @@
 -- `kernel::inner::lanes::store` meets its contract. Assumes nothing.
-use mathlib.Core.Path.{_≡_, refl, _∙_}
-use Prim.Native.Nat.{ℕ, _+_, _-_, _≤_, _<_}
-use native.Mathlib.Nat.{mod-lt}
+use mathlib.Core.Path.{ap₂}
+use Prim.Native.Nat.{ℕ, _+_, _-_}
 use native.Mathlib.Omega.{arith}
 use borrow.Author.Needs.{needs}
-use lib.ListN.{length}
-use Rattle.floats.specs.declared.complex.Complex.{Complex}
-use Rattle.kernel.specs.Parts.{Done, Held}
-use Rattle.kernel.proofs.Places.{block-room, held-from}
+use Rattle.kernel.proofs.Batches.{Storing, storing-none, storing-column, storing-asks, storing-room, storing-within, storing-block, storing-lanes, storing-next, storing-all}
 use Rattle.kernel.proofs.inner.lanes.store.Statement.{statement}
 use Rattle.kernel.proofs.inner.lanes.store.Tie as tie
 
 abbrev Inv-loop : tie.InvT-loop
-Inv-loop re im dst₀ i m len s r j₀ dst j = (j ≤ len) × (length dst ≡ length dst₀) × ((v : ℕ → ℕ → Complex) → Held i len r v re im → Done s r v dst₀ i → Done s r v dst (i + j))
+Inv-loop re im dst₀ i m len s r even at₀ j₀ dst at j = Storing even i len s r re im dst₀ dst (at .block) (at .col) j
 
 abbrev μ-loop : tie.MeasureT-loop
-μ-loop re im dst₀ i m len s r j₀ dst j = len - j
+μ-loop re im dst₀ i m len s r even at₀ j₀ dst at j = len - j
 
 loop-holds : tie.Need-loop-holds Inv-loop μ-loop
-loop-holds c = (omega arith, refl, λ v held done i p li lp. done i p (omega arith) lp)
+loop-holds c = let p = c .before .before .before .pre in storing-none (p .1) (p .2)
 
-add-least : tie.Need-add-least Inv-loop μ-loop
-add-least c = search needs
+sub-batch : tie.Need-sub-batch Inv-loop μ-loop
+sub-batch c =
+    let p = c .before .before .before .before .before .before .pre in
+    omega (arith, storing-column (p .0) (p .1) (c .before .before .loop .inv))
 
-rem-least : tie.Need-rem-least Inv-loop μ-loop
-rem-least c = search needs
+sub-batch-2 : tie.Need-sub-batch-2 Inv-loop μ-loop
+sub-batch-2 c = search needs
 
-sub-least : tie.Need-sub-least Inv-loop μ-loop
-sub-least c = omega (arith, mod-lt (c .before .before .before .before .before .args .i + c .before .loop .j) {m = c .before .before .before .before .before .args .s} (c .before .before .before .before .before .pre .0 .blocks .stride))
-
-sub-least-2 : tie.Need-sub-least-2 Inv-loop μ-loop
-sub-least-2 c = search needs
-
-least-requires : tie.Need-least-requires Inv-loop μ-loop
-least-requires c κs = search needs
+batch-requires : tie.Need-batch-requires Inv-loop μ-loop
+batch-requires c κs =
+    let p = c .before .before .before .before .before .before .pre in
+    storing-asks (p .0) (p .1) (c .before .before .loop .inv) (c .before .loop-test .taken)
 
 add-rows : tie.Need-add-rows Inv-loop μ-loop
-add-rows c = search needs
+add-rows c =
+    let p = c .before .before .before .before .before .before .before .before .before .pre in
+    omega (arith, storing-room (p .0) (p .1) (c .before .before .before .before .before .loop .inv) (c .before .before .before .before .loop-test .taken) .0)
+
+add-rows-2 : tie.Need-add-rows-2 Inv-loop μ-loop
+add-rows-2 c = search needs
 
 rows-requires : tie.Need-rows-requires Inv-loop μ-loop
 rows-requires c κs =
-    let a = c .before .before .before .before .before .before .before .args in
-    let b = c .before .before .before .before .before .before .before .pre .0 .blocks in
-    let l = c .before .before .before .loop in
-    let n = c .before .least .ensures in
-    let lj : a .i + l .j < a .m = omega (arith, c .before .before .before .before .before .before .before .pre .0 .within) in (
-      record {
-        stride = b .stride;
-        some = b .some;
-        few = b .few;
-        one = omega (arith, n .0, mod-lt (c .before .before .before .before .before .before .before .args .i + c .before .before .before .loop .j) {m = c .before .before .before .before .before .before .before .args .s} (c .before .before .before .before .before .before .before .pre .0 .blocks .stride));
-        room = omega (arith, block-room (a .i + l .j) (a .m) (a .s) (a .r) _ b lj, l .inv .1);
-      },
-      omega (arith, n .1, c .before .before .before .before .before .before .before .pre .0 .lanes),
+    let p = c .before .before .before .before .before .before .before .before .before .pre in
+    let w = c .before .before .before .before .before .loop .inv in
+    let t = c .before .before .before .before .loop-test .taken in
+    let b = c .before .before .batch .ensures in (
+      storing-block (p .0) (p .1) w t b,
+      ap₂ (λ (x y : ℕ). x + y) (w .placed .starts) (w .placed .column),
+      b .0,
+      b .1,
+      storing-lanes (p .0) (p .1) w t b,
       omega arith,
       omega arith,
     )
 
+onward-requires : tie.Need-onward-requires Inv-loop μ-loop
+onward-requires c κs =
+    let p = c .before .before .before .before .before .before .before .before .before .before .before .before .pre in
+    let w = c .before .before .before .before .before .before .before .before .loop .inv in
+    let t = c .before .before .before .before .before .before .before .loop-test .taken in
+    (storing-within (p .0) (p .1) w t (c .before .before .before .before .before .batch .ensures), omega (arith, storing-room (p .0) (p .1) w t .1))
+
 add-j : tie.Need-add-j Inv-loop μ-loop
-add-j c = omega (arith, c .before .before .before .before .least .ensures .1)
+add-j c = omega (arith, c .before .before .before .before .before .before .batch .ensures .3)
 
 loop-less : tie.Need-loop-less Inv-loop μ-loop
-loop-less c =
-    let some : 0 < c .before .before .before .before .least .result = c .before .before .before .before .least .ensures .2 (omega (arith, mod-lt (c .before .before .before .before .before .before .before .before .before .before .args .i + c .before .before .before .before .before .before .loop .j) {m = c .before .before .before .before .before .before .before .before .before .before .args .s} (c .before .before .before .before .before .before .before .before .before .before .pre .0 .blocks .stride))) (omega arith) in
-    omega (arith, c .before .before .before .before .least .ensures .1)
+loop-less c = omega (arith, c .before .before .before .before .before .before .batch .ensures .1, c .before .before .before .before .before .before .batch .ensures .3)
 
 loop-again : tie.Need-loop-again Inv-loop μ-loop
 loop-again c =
-    let a = c .before .before .before .before .before .before .before .before .before .before .args in
-    let l = c .before .before .before .before .before .before .loop in
-    let n = c .before .before .before .before .least in
-    let fits : l .j + n .result ≤ a .len = omega (arith, n .ensures .1) in (
-      fits,
-      c .before .before .rows .kept .1 .1 .1 .0 ∙ l .inv .1,
-      λ v held done i p li lp.
-          c .before .before .rows .ensures v (held-from (a .i) (a .len) (a .r) v (a .re .now) (a .im .now) (l .j) (n .result) fits held) (l .inv .2 v held done) i p (omega arith) lp,
-    )
+    let p = c .before .before .before .before .before .before .before .before .before .before .before .before .before .pre in
+    let w = c .before .before .before .before .before .before .before .before .before .loop .inv in
+    let t = c .before .before .before .before .before .before .before .before .loop-test .taken in
+    let rows = c .before .before .before .rows in
+    storing-next (p .0) (p .1) w t (c .before .before .before .before .before .before .batch .ensures) (rows .ensures) (rows .kept .1 .1 .1 .0) (c .onward .ensures)
 
 same-length : tie.Need-same-length Inv-loop μ-loop
-same-length c = c .before .loop .inv .1
+same-length c = c .before .loop .inv .size
 
 returns : tie.Need-returns Inv-loop μ-loop
 returns c =
-    λ v held done i p li lp. c .before .loop .inv .2 v held done i p (omega arith) lp
+    let p = c .before .before .before .before .before .pre in
+    storing-all (p .0) (p .1) (c .before .loop .inv) (omega (arith, c .loop-test .left))
 
 pub store-spec : {M : Type 1} → statement M
 store-spec =
@@ -91,13 +88,13 @@ store-spec =
     Inv-loop
     μ-loop
     loop-holds
-    add-least
-    rem-least
-    sub-least
-    sub-least-2
-    least-requires
+    sub-batch
+    sub-batch-2
+    batch-requires
     add-rows
+    add-rows-2
     rows-requires
+    onward-requires
     add-j
     loop-less
     loop-again

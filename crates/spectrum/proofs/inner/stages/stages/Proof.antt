@@ -3,7 +3,8 @@ use mathlib.Core.Path.{sym}
 use native.Mathlib.Omega.{arith}
 use borrow.Author.Needs.{needs}
 use lib.Seq.{length-take-le}
-use Rattle.spectrum.proofs.Scratch.{front-room, stages-made, stages-none}
+use Rattle.spectrum.specs.Transforms.{dataOf}
+use Rattle.spectrum.proofs.Scratch.{data-length, front-room, stages-made, stages-none}
 use Rattle.spectrum.proofs.inner.stages.stages.Statement.{statement}
 use Rattle.spectrum.proofs.inner.stages.stages.Tie as tie
 
@@ -59,7 +60,7 @@ returns c =
     let s = c .before .before .before .before .before .before .before .before .before .before .before .before .before .before .before .before .before .before in
     let a = s .args in
     let o = c .before .before .before .before .before .before .before .before .before .before .before .all in
-    (o .ensures .1 .1, stages-made (a .plan) (a .width) (a .twiddles .now) (a .scratch .now) (a .other .now) (s .pre .room) (s .pre .other) (c .before .before .before .before .before .if1 .taken) _ _ _ (o .ensures .0) (o .ensures .1 .0) (c .before .before .paste .ensures))
+    (o .ensures .1 .1, stages-made (a .plan) (a .width) (a .twiddles .now) (dataOf (a .plan .half) (a .scratch .now)) (a .scratch .now) (a .other .now) (data-length (a .plan .half) (a .scratch .now) (s .pre .room)) (s .pre .room) (s .pre .other) (c .before .before .before .before .before .if1 .taken) _ _ _ (o .ensures .0) (o .ensures .1 .0) (c .before .before .paste .ensures))
 
 same-length-3 : tie.Need-same-length-3
 same-length-3 c = search needs
@@ -72,7 +73,7 @@ returns-2 c =
     let s = c .before .before .before .before .before .before .before .before .before .before .before .before .before in
     let a = s .args in
     let o = c .before .before .before .before .before .before .all in
-    (o .ensures .1 .1, stages-none (a .plan) (a .width) (a .twiddles .now) (a .scratch .now) (a .other .now) (s .pre .room) (s .pre .other) (omega (arith, c .if1 .left)) _ (o .ensures .0))
+    (o .ensures .1 .1, stages-none (a .plan) (a .width) (a .twiddles .now) (dataOf (a .plan .half) (a .scratch .now)) (a .scratch .now) (a .other .now) (data-length (a .plan .half) (a .scratch .now) (s .pre .room)) (s .pre .room) (s .pre .other) (omega (arith, c .if1 .left)) _ (o .ensures .0))
 
 pub stages-spec : {M : Type 1} → statement M
 stages-spec =

@@ -45,7 +45,7 @@ returns c =
     let s = c .before .before .before .before .before .before .before .before .before .before .before .before .before .before .before .before .before .before .before .before .before .before in
     let a = s .args in
     let i = c .before .before .before .before .before .before .before .before .before .before .before .before .before .before .invert in
-    (inverse-made (a .plan) (a .width) (a .stage .now) (a .end .now) (a .input .now) (a .scratch .now) (plan-some (a .plan) (s .pre .planned)) (s .pre .room) (i .last .1 .1 .1 .1 .0) (i .last .1 .1 .1 .0) (c .before .before .before .before .before .before .before .fetch .last .1 .1 .0) (c .before .before .clear .last .0) (length (a .output .now)) (sym (i .kept .1 .1 .1 .0)) (omega (arith, s .pre .samples, plan-twice (a .plan) (s .pre .planned))) (i .ensures) (c .before .before .before .before .before .before .before .fetch .ensures) (c .before .before .clear .ensures), i .ensures)
+    (inverse-made (a .plan) (a .width) (a .stage-twiddles .now) (a .end-twiddles .now) (a .input .now) (a .scratch .now) (plan-some (a .plan) (s .pre .planned)) (s .pre .room) (i .last .1 .1 .1 .1 .0) (i .last .1 .1 .1 .0) (c .before .before .before .before .before .before .before .fetch .last .1 .1 .0) (c .before .before .clear .last .0) (length (a .output .now)) (sym (i .kept .1 .1 .1 .0)) (omega (arith, s .pre .samples, plan-twice (a .plan) (s .pre .planned))) (i .ensures) (c .before .before .before .before .before .before .before .fetch .ensures) (c .before .before .clear .ensures), i .ensures)
 
 pub inverse-spec : {M : Type 1} → statement M
 inverse-spec =

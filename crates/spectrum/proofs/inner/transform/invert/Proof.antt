@@ -37,7 +37,7 @@ returns c =
     let s = c .before .before .before .before .before .before .before .before .before .before .before .before .before .before .before .before .before .before .before .before .before .before .before in
     let a = s .args in
     let o = c .before .before .before .before .before .before .before .before .before .before .before .stages in
-    invert-made (a .plan) (a .width) (a .stage .now) (a .end .now) (a .input .now) (a .scratch .now) (plan-some (a .plan) (s .pre .planned)) (s .pre .room) _ _ _ _ _ (c .before .before .before .before .before .before .before .before .before .before .before .before .before .before .before .before .prepare .ensures) (o .ensures .1) (o .ensures .0) (c .before .before .before .before .restore .ensures)
+    invert-made (a .plan) (a .width) (a .stage-twiddles .now) (a .end-twiddles .now) (a .input .now) (a .scratch .now) (plan-some (a .plan) (s .pre .planned)) (s .pre .room) _ _ _ _ _ (c .before .before .before .before .before .before .before .before .before .before .before .before .before .before .before .before .prepare .ensures) (o .ensures .1) (o .ensures .0) (c .before .before .before .before .restore .ensures)
 
 pub invert-spec : {M : Type 1} → statement M
 invert-spec =

@@ -1,41 +1,50 @@
 -- `stage::inner::drive::all` meets its contract. Assumes nothing.
+use native.Mathlib.Omega.{arith}
 use mathlib.Core.Logic.{⊎-elim}
-use mathlib.Core.Path.{sym, ap, _∙_}
+use mathlib.Core.Path.{_≡_, refl, ap, _∙_}
+use lib.Ieee.{Float}
 use lib.ListN.{length}
 use borrow.Author.Needs.{needs}
-use Rattle.schedule.proofs.Buffers.{driven-copied, driven-kept}
-use Rattle.floats.proofs.Words.{whole-pasted}
-use Rattle.stage.specs.Runs.{stageIn}
+use Rattle.plan.proofs.Counts.{start-none}
+use Rattle.schedule.specs.Buffers.{Two}
+use Rattle.stage.specs.Runs.{stageIn, runOf}
+use Rattle.stage.proofs.Runs.{drivable-as, steppable, gone-none}
 use Rattle.stage.proofs.inner.drive.all.Statement.{statement}
 use Rattle.stage.proofs.inner.drive.all.Tie as tie
 
-drive-requires : tie.Need-drive-requires
-drive-requires c κs = search needs
+one-requires : tie.Need-one-requires
+one-requires c κs =
+    let s = c .before .before .before .before .before .before .before in
+    steppable (s .pre) 0 (omega (arith, c .before .before .if1 .taken)) _ _ _ (s .pre .long) (s .pre .wide) (start-none (s .args .plan .half) (s .args .plan .radices))
 
-paste-requires : tie.Need-paste-requires
-paste-requires c κs = search needs
+later-requires : tie.Need-later-requires
+later-requires c κs =
+    let s = c .before .before .before .before .before .before .before .before .before .before .before .before in
+    (drivable-as (s .pre) refl (c .before .before .before .before .one .kept .1 .1 .1 .1 .0), omega (arith, c .before .before .before .before .before .before .before .if1 .taken))
 
 result-in-requires : tie.Need-result-in-requires
 result-in-requires c κs = search needs
 
 same-length : tie.Need-same-length
-same-length c =
-    let drive = c .before .before .before .before .before .before .before .drive in
-    ⊎-elim (λ e. ap length (e .6) ∙ e .3 .kept .1 .0 ∙ drive .kept .1 .1 .0) (λ e. ap length (e .1) ∙ drive .kept .1 .1 .0) (c .before .if1 .came)
+same-length c = ⊎-elim (λ e. ap length (e .13) ∙ e .8 .kept .1 .1 .0) (λ e. ap length (e .1)) (c .before .if1 .came)
 
 same-length-2 : tie.Need-same-length-2
-same-length-2 c = search needs
+same-length-2 c = ⊎-elim (λ e. ap length (e .14) ∙ e .8 .kept .1 .1 .1 .0 ∙ e .3 .kept .1 .1 .1 .1 .0) (λ e. ap length (e .2)) (c .before .if1 .came)
 
 returns : tie.Need-returns
 returns c =
-    let drive = c .before .before .before .before .before .before .before .drive in
-    let s = c .before .before .before .before .before .before .before .before .before .before .before .before .before in
+    let s = c .before .before .before .before .before .before in
     let a = s .args in
+    let b : Two Float = (a .«data» .now, a .scratch .now) in
     let f = stageIn (a .plan) (a .width) (a .twiddles .now) in
-    let left =
+    let left : (c .before .if1 .«data» ≡ runOf (a .plan) (a .width) (a .twiddles .now) b .0) × (c .before .if1 .scratch ≡ runOf (a .plan) (a .width) (a .twiddles .now) b .1) =
     ⊎-elim
-    (λ e. driven-copied f (a .«data» .now, a .scratch .now) (a .plan .count) (e .0 .taken) _ _ (e .6 ∙ e .3 .ensures ∙ whole-pasted _ _ (drive .kept .1 .1 .0 ∙ s .pre .long ∙ sym (drive .kept .1 .1 .1 .0 ∙ s .pre .wide))) (drive .ensures .1))
-    (λ e. driven-kept f (a .«data» .now, a .scratch .now) (a .plan .count) (e .0 .left) _ _ (e .1 ∙ drive .ensures .0) (drive .ensures .1))
+    (λ e.
+    let g = e .8 .ensures (a .«data» .now) (a .scratch .now) (e .3 .ensures) in
+    (e .13 ∙ g .0, e .14 ∙ g .1))
+    (λ e.
+    let g = gone-none f (a .plan .count) (omega (arith, e .0 .left)) b in
+    (e .1 ∙ g .0, e .2 ∙ g .1))
     (c .before .if1 .came) in
     (left .0, (left .1, c .result-in .ensures))
 
@@ -43,8 +52,8 @@ pub all-spec : {M : Type 1} → statement M
 all-spec =
     tie.close
     (tie.spec
-    drive-requires
-    paste-requires
+    one-requires
+    later-requires
     result-in-requires
     same-length
     same-length-2

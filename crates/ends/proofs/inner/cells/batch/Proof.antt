@@ -1,0 +1,128 @@
+-- `ends::inner::cells::batch` meets its contract. Assumes nothing.
+use mathlib.Core.Path.{_≡_, refl, ap, subst, _∙_}
+use Prim.Native.Nat.{ℕ, _+_, _-_, _≤_, _<_}
+use native.Mathlib.Omega.{arith}
+use lib.ListN.{length}
+use borrow.Author.Needs.{needs}
+use Rattle.floats.specs.Complexes.{cell}
+use Rattle.ends.specs.Ends.{stepsOf}
+use Rattle.ends.specs.Parts.{Batched}
+use Rattle.ends.proofs.Batches.{batched-none, batched-next}
+use Rattle.ends.proofs.inner.cells.batch.Statement.{statement}
+use Rattle.ends.proofs.inner.cells.batch.Tie as tie
+
+abbrev Inv-loop : tie.InvT-loop
+Inv-loop cells twiddles ahead₀ back₀ h k len forward j₀ ahead back j =
+    (j ≤ len) × (length ahead ≡ length ahead₀) × (length back ≡ length back₀) × Batched (stepsOf forward) h twiddles cells k j ahead back
+
+abbrev μ-loop : tie.MeasureT-loop
+μ-loop cells twiddles ahead₀ back₀ h k len forward j₀ ahead back j = len - j
+
+loop-holds : tie.Need-loop-holds Inv-loop μ-loop
+loop-holds c = (omega arith, refl, refl, batched-none _ _ _ _ _ _ _)
+
+add-get : tie.Need-add-get Inv-loop μ-loop
+add-get c = search needs
+
+get-requires : tie.Need-get-requires Inv-loop μ-loop
+get-requires c κs = search needs
+
+sub-get : tie.Need-sub-get Inv-loop μ-loop
+sub-get c = search needs
+
+sub-get-2 : tie.Need-sub-get-2 Inv-loop μ-loop
+sub-get-2 c = search needs
+
+get-requires-2 : tie.Need-get-requires-2 Inv-loop μ-loop
+get-requires-2 c κs = search needs
+
+add-get-2 : tie.Need-add-get-2 Inv-loop μ-loop
+add-get-2 c = search needs
+
+sub-get-3 : tie.Need-sub-get-3 Inv-loop μ-loop
+sub-get-3 c = search needs
+
+get-requires-3 : tie.Need-get-requires-3 Inv-loop μ-loop
+get-requires-3 c κs =
+    let s = c .before .before .before .before .before .before .before .before in
+    let l = c .before .before .before .loop in
+    omega (arith, s .pre .some, s .pre .lent (s .args .k + l .j) (omega (arith, s .pre .room, c .before .before .loop-test .taken)))
+
+near-requires : tie.Need-near-requires Inv-loop μ-loop
+near-requires c κs = search needs
+
+put-requires : tie.Need-put-requires Inv-loop μ-loop
+put-requires c κs = search needs
+
+sub-put : tie.Need-sub-put Inv-loop μ-loop
+sub-put c = search needs
+
+far-requires : tie.Need-far-requires Inv-loop μ-loop
+far-requires c κs = search needs
+
+put-requires-2 : tie.Need-put-requires-2 Inv-loop μ-loop
+put-requires-2 c κs = search needs
+
+add-j : tie.Need-add-j Inv-loop μ-loop
+add-j c = omega (arith, c .before .before .before .before .before .before .before .before .before .before .before .before .before .loop-test .taken, c .before .before .before .before .before .before .before .before .before .before .before .before .before .before .before .before .before .before .before .pre .short)
+
+loop-less : tie.Need-loop-less Inv-loop μ-loop
+loop-less c = search needs
+
+loop-again : tie.Need-loop-again Inv-loop μ-loop
+loop-again c =
+    let q = c .before .before .before .before .before .before .before .before .before .before in
+    let l = q .before .before .before .before .loop in
+    let s = q .before .before .before .before .before .before .before .before .before in
+    let lt : l .j < s .args .len = q .before .before .before .loop-test .taken in
+    let x = s .args .cells .now in
+    let at : s .args .h - s .args .k - l .j ≡ s .args .h - (s .args .k + l .j) = omega (arith, lt, s .pre .room) in
+    let a = q .before .before .get .ensures in
+    let b = q .before .get2 .ensures ∙ ap (cell x) at in
+    let t = q .get3 .ensures in (
+      omega (arith, lt),
+      c .before .before .before .before .before .before .before .put .kept .0 ∙ l .inv .1,
+      c .before .before .put2 .kept .0 ∙ l .inv .2,
+      batched-next (stepsOf (s .args .forward)) (s .args .h) (s .args .twiddles .now) x (s .args .k) (l .j) (l .ahead) (l .back) _ _ _ _ (omega (arith, lt, s .pre .short)) (l .inv .1 ∙ s .pre .ahead) (l .inv .2 ∙ s .pre .back) (l .inv .3)
+          (c .before .before .before .before .before .before .before .before .near .ensures ∙ rw (a, b, t)) (c .before .before .before .far .ensures ∙ rw (a, b, t)) (c .before .before .before .before .before .before .before .put .ensures) (c .before .before .put2 .ensures),
+    )
+
+same-length : tie.Need-same-length Inv-loop μ-loop
+same-length c = c .before .loop .inv .1
+
+same-length-2 : tie.Need-same-length-2 Inv-loop μ-loop
+same-length-2 c = c .before .loop .inv .2
+
+returns : tie.Need-returns Inv-loop μ-loop
+returns c =
+    let s = c .before .before .before .before .before .before in
+    let l = c .before .loop in
+    let e : l .j ≡ s .args .len = omega (arith, l .inv .0, c .loop-test .left) in
+    subst (λ (n : ℕ). Batched (stepsOf (s .args .forward)) (s .args .h) (s .args .twiddles .now) (s .args .cells .now) (s .args .k) n (l .ahead) (l .back)) e (l .inv .3)
+
+pub batch-spec : {M : Type 1} → statement M
+batch-spec =
+    tie.close
+    (tie.spec
+    Inv-loop
+    μ-loop
+    loop-holds
+    add-get
+    get-requires
+    sub-get
+    sub-get-2
+    get-requires-2
+    add-get-2
+    sub-get-3
+    get-requires-3
+    near-requires
+    put-requires
+    sub-put
+    far-requires
+    put-requires-2
+    add-j
+    loop-less
+    loop-again
+    same-length
+    same-length-2
+    returns)

@@ -1,0 +1,26 @@
+-- `ends::inner::cells::preprocess_ifft` meets its contract. Assumes nothing.
+use mathlib.Core.Path.{ap}
+use native.Mathlib.Omega.{arith}
+use borrow.Author.Needs.{needs}
+use Rattle.floats.specs.Complexes.{cell}
+use Rattle.ends.specs.Ends.{ifftSteps}
+use Rattle.ends.proofs.inner.cells.preprocess_ifft.Statement.{statement}
+use Rattle.ends.proofs.inner.cells.preprocess_ifft.Tie as tie
+
+get-requires : tie.Need-get-requires
+get-requires c κs = search needs
+
+end-requires : tie.Need-end-requires
+end-requires c κs =
+    let s = c .before .before .before .before .before in
+    let e = c .before .get .ensures in
+    (s .pre .0, omega (arith, s .pre .1), record { first = ap (ifftSteps .first (cell (s .args .cells .now) 0)) e; last = e })
+
+same-length : tie.Need-same-length
+same-length c = search needs
+
+returns : tie.Need-returns
+returns c = search needs
+
+pub preprocess-ifft-spec : {M : Type 1} → statement M
+preprocess-ifft-spec = tie.close (tie.spec get-requires end-requires same-length returns)

@@ -1,0 +1,102 @@
+-- `kernel::inner::fours::store4` meets its contract. Assumes nothing.
+use mathlib.Core.Path.{ap₂}
+use Prim.Native.Nat.{ℕ, _+_, _-_}
+use native.Mathlib.Omega.{arith}
+use borrow.Author.Needs.{needs}
+use Rattle.kernel.proofs.Batches.{Storing, storing-none, storing-column, storing-asks, storing-room, storing-within, storing-block, storing-lanes, storing-next, storing-all}
+use Rattle.kernel.proofs.inner.fours.store4.Statement.{statement}
+use Rattle.kernel.proofs.inner.fours.store4.Tie as tie
+
+abbrev Inv-loop : tie.InvT-loop
+Inv-loop re im dst₀ i m len s r even at₀ j₀ dst at j = Storing even i len s r re im dst₀ dst (at .block) (at .col) j
+
+abbrev μ-loop : tie.MeasureT-loop
+μ-loop re im dst₀ i m len s r even at₀ j₀ dst at j = len - j
+
+loop-holds : tie.Need-loop-holds Inv-loop μ-loop
+loop-holds c = let p = c .before .before .before .pre in storing-none (p .1) (p .2)
+
+sub-batch : tie.Need-sub-batch Inv-loop μ-loop
+sub-batch c =
+    let p = c .before .before .before .before .before .before .pre in
+    omega (arith, storing-column (p .0) (p .1) (c .before .before .loop .inv))
+
+sub-batch-2 : tie.Need-sub-batch-2 Inv-loop μ-loop
+sub-batch-2 c = search needs
+
+batch-requires : tie.Need-batch-requires Inv-loop μ-loop
+batch-requires c κs =
+    let p = c .before .before .before .before .before .before .pre in
+    storing-asks (p .0) (p .1) (c .before .before .loop .inv) (c .before .loop-test .taken)
+
+add-rows : tie.Need-add-rows Inv-loop μ-loop
+add-rows c =
+    let p = c .before .before .before .before .before .before .before .before .before .pre in
+    omega (arith, storing-room (p .0) (p .1) (c .before .before .before .before .before .loop .inv) (c .before .before .before .before .loop-test .taken) .0)
+
+add-rows-2 : tie.Need-add-rows-2 Inv-loop μ-loop
+add-rows-2 c = search needs
+
+rows-requires : tie.Need-rows-requires Inv-loop μ-loop
+rows-requires c κs =
+    let p = c .before .before .before .before .before .before .before .before .before .pre in
+    let w = c .before .before .before .before .before .loop .inv in
+    let t = c .before .before .before .before .loop-test .taken in
+    let b = c .before .before .batch .ensures in (
+      storing-block (p .0) (p .1) w t b,
+      ap₂ (λ (x y : ℕ). x + y) (w .placed .starts) (w .placed .column),
+      b .0,
+      b .1,
+      storing-lanes (p .0) (p .1) w t b,
+      omega arith,
+      omega arith,
+    )
+
+onward-requires : tie.Need-onward-requires Inv-loop μ-loop
+onward-requires c κs =
+    let p = c .before .before .before .before .before .before .before .before .before .before .before .before .pre in
+    let w = c .before .before .before .before .before .before .before .before .loop .inv in
+    let t = c .before .before .before .before .before .before .before .loop-test .taken in
+    (storing-within (p .0) (p .1) w t (c .before .before .before .before .before .batch .ensures), omega (arith, storing-room (p .0) (p .1) w t .1))
+
+add-j : tie.Need-add-j Inv-loop μ-loop
+add-j c = omega (arith, c .before .before .before .before .before .before .batch .ensures .3)
+
+loop-less : tie.Need-loop-less Inv-loop μ-loop
+loop-less c = omega (arith, c .before .before .before .before .before .before .batch .ensures .1, c .before .before .before .before .before .before .batch .ensures .3)
+
+loop-again : tie.Need-loop-again Inv-loop μ-loop
+loop-again c =
+    let p = c .before .before .before .before .before .before .before .before .before .before .before .before .before .pre in
+    let w = c .before .before .before .before .before .before .before .before .before .loop .inv in
+    let t = c .before .before .before .before .before .before .before .before .loop-test .taken in
+    let rows = c .before .before .before .rows in
+    storing-next (p .0) (p .1) w t (c .before .before .before .before .before .before .batch .ensures) (rows .ensures) (rows .kept .1 .1 .1 .0) (c .onward .ensures)
+
+same-length : tie.Need-same-length Inv-loop μ-loop
+same-length c = c .before .loop .inv .size
+
+returns : tie.Need-returns Inv-loop μ-loop
+returns c =
+    let p = c .before .before .before .before .before .pre in
+    storing-all (p .0) (p .1) (c .before .loop .inv) (omega (arith, c .loop-test .left))
+
+pub store4-spec : {M : Type 1} → statement M
+store4-spec =
+    tie.close
+    (tie.spec
+    Inv-loop
+    μ-loop
+    loop-holds
+    sub-batch
+    sub-batch-2
+    batch-requires
+    add-rows
+    add-rows-2
+    rows-requires
+    onward-requires
+    add-j
+    loop-less
+    loop-again
+    same-length
+    returns)

@@ -1,0 +1,145 @@
+-- `stage::inner::drive::later` meets its contract. Assumes nothing.
+use Prim.Native.Nat.{_+_, _-_, _*_, _≤_, _<_}
+use native.Mathlib.Nat.{le-of-lt}
+use native.Mathlib.Omega.{arith}
+use mathlib.Core.Logic.{⊎-elim}
+use mathlib.Core.Path.{_≡_, sym, ap, _∙_}
+use lib.ListN.{length}
+use borrow.Author.Needs.{needs}
+use Rattle.plan.specs.Counts.{twiddleStart}
+use Rattle.plan.proofs.Counts.{count-small, start-next, start-none}
+use Rattle.twiddle.proofs.Counts.{start-few}
+use Rattle.floats.proofs.Words.{whole-pasted}
+use Rattle.stage.specs.Runs.{stageIn}
+use Rattle.stage.proofs.Runs.{steppable, length-made, Going, going-first, going-even, going-odd, gone-one, gone-all}
+use Rattle.stage.proofs.inner.drive.later.Statement.{statement}
+use Rattle.stage.proofs.inner.drive.later.Tie as tie
+
+abbrev Inv-loop : tie.InvT-loop
+Inv-loop plan width data₀ scratch₀ twiddles count start₀ k₀ «data» scratch start k =
+    (0 < k) × (k ≤ count) × (start ≡ twiddleStart (plan .half) (plan .radices) k) × (length «data» ≡ 2 * plan .half) × (length scratch ≡ 2 * plan .half)
+    × Going (stageIn plan width twiddles) scratch₀ «data» scratch k
+
+abbrev μ-loop : tie.MeasureT-loop
+μ-loop plan width data₀ scratch₀ twiddles count start₀ k₀ «data» scratch start k = count - k
+
+paste-requires : tie.Need-paste-requires Inv-loop μ-loop
+paste-requires c κs = search needs
+
+same-length : tie.Need-same-length Inv-loop μ-loop
+same-length c = search needs
+
+same-length-2 : tie.Need-same-length-2 Inv-loop μ-loop
+same-length-2 c = search needs
+
+returns : tie.Need-returns Inv-loop μ-loop
+returns c =
+    let s = c .before .before .before .before .before .before .before .before .before in
+    let a = s .args in
+    gone-one (stageIn (a .plan) (a .width) (a .twiddles .now)) (a .scratch .now) _ (a .plan .count) (c .before .before .before .before .before .if1 .taken)
+    (c .before .before .paste .ensures ∙ whole-pasted _ _ (s .pre .0 .long ∙ sym (s .pre .0 .wide)))
+
+twiddle-count-requires : tie.Need-twiddle-count-requires Inv-loop μ-loop
+twiddle-count-requires c κs = search needs
+
+loop-holds : tie.Need-loop-holds Inv-loop μ-loop
+loop-holds c =
+    let s = c .before .before .before .before .before in
+    let a = s .args in (
+      omega arith,
+      omega (arith, s .pre .1),
+      omega (arith, c .twiddle-count .ensures, start-next (a .plan .half) (a .plan .radices) 0, start-none (a .plan .half) (a .plan .radices)),
+      s .pre .0 .long,
+      s .pre .0 .wide,
+      going-first _ _ _,
+    )
+
+one-requires : tie.Need-one-requires Inv-loop μ-loop
+one-requires c κs =
+    let l = c .before .before .before .before .loop in
+    steppable (c .before .before .before .before .before .before .before .before .before .before .pre .0) (l .k) (c .before .before .before .loop-test .taken) _ _ _ (l .inv .3) (l .inv .4) (l .inv .2)
+
+one-requires-2 : tie.Need-one-requires-2 Inv-loop μ-loop
+one-requires-2 c κs =
+    let l = c .before .before .before .before .loop in
+    steppable (c .before .before .before .before .before .before .before .before .before .before .pre .0) (l .k) (c .before .before .before .loop-test .taken) _ _ _ (l .inv .4) (l .inv .3) (l .inv .2)
+
+twiddle-count-requires-2 : tie.Need-twiddle-count-requires-2 Inv-loop μ-loop
+twiddle-count-requires-2 c κs = search needs
+
+add-start : tie.Need-add-start Inv-loop μ-loop
+add-start c =
+    let s = c .before .before .before .before .before .before .before .before .before in
+    let l = c .before .before .before .loop in
+    let known = c .before .before .loop-test .taken in
+    omega (arith, l .inv .2, start-few (s .args .plan) (s .pre .0 .planned) (l .k) (le-of-lt known), c .twiddle-count2 .ensures, count-small (s .args .plan) (s .pre .0 .planned) (l .k) known)
+
+add-k : tie.Need-add-k Inv-loop μ-loop
+add-k c = search needs
+
+loop-less : tie.Need-loop-less Inv-loop μ-loop
+loop-less c = search needs
+
+loop-again : tie.Need-loop-again Inv-loop μ-loop
+loop-again c =
+    let a = c .before .before .before .before .before .before .before .before .before .args in
+    let l = c .before .before .before .loop in
+    let j = c .before .if2 in
+    let f = stageIn (a .plan) (a .width) (a .twiddles .now) in
+    let next : (length (j .«data») ≡ 2 * a .plan .half) × (length (j .scratch) ≡ 2 * a .plan .half) × Going f (a .scratch .now) (j .«data») (j .scratch) (l .k + 1) =
+    ⊎-elim
+    (λ e. (
+      ap length (e .6) ∙ l .inv .3,
+      ap length (e .7 ∙ e .3 .ensures) ∙ length-made (a .plan) (l .k) (a .width) _ _,
+      going-even f (a .scratch .now) (l .«data») (l .scratch) (j .«data») (j .scratch) (l .k) (l .inv .0) (l .inv .5) (e .0 .taken) (e .6) (e .7 ∙ e .3 .ensures),
+    ))
+    (λ e. (
+      ap length (e .6 ∙ e .3 .ensures) ∙ length-made (a .plan) (l .k) (a .width) _ _,
+      ap length (e .7) ∙ l .inv .4,
+      going-odd f (a .scratch .now) (l .«data») (l .scratch) (j .«data») (j .scratch) (l .k) (l .inv .0) (l .inv .5) (e .0 .left) (e .6 ∙ e .3 .ensures) (e .7),
+    ))
+    (j .came) in (
+      omega arith,
+      omega (arith, c .before .before .loop-test .taken),
+      omega (arith, l .inv .2, c .twiddle-count2 .ensures, start-next (a .plan .half) (a .plan .radices) (l .k)),
+      next .0,
+      next .1,
+      next .2,
+    )
+
+same-length-3 : tie.Need-same-length-3 Inv-loop μ-loop
+same-length-3 c = search needs
+
+same-length-4 : tie.Need-same-length-4 Inv-loop μ-loop
+same-length-4 c = search needs
+
+returns-2 : tie.Need-returns-2 Inv-loop μ-loop
+returns-2 c =
+    let s = c .before .before .before .before .before .before .before in
+    let a = s .args in
+    let l = c .before .loop in
+    gone-all (stageIn (a .plan) (a .width) (a .twiddles .now)) (a .scratch .now) (l .«data») (l .scratch) (l .k) (a .plan .count)
+    (omega (arith, l .inv .1, c .loop-test .left)) (omega (arith, s .pre .1, c .before .before .before .if1 .left)) (l .inv .5)
+
+pub later-spec : {M : Type 1} → statement M
+later-spec =
+    tie.close
+    (tie.spec
+    Inv-loop
+    μ-loop
+    paste-requires
+    same-length
+    same-length-2
+    returns
+    twiddle-count-requires
+    loop-holds
+    one-requires
+    one-requires-2
+    twiddle-count-requires-2
+    add-start
+    add-k
+    loop-less
+    loop-again
+    same-length-3
+    same-length-4
+    returns-2)
