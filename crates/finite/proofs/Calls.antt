@@ -84,7 +84,7 @@ module _ (xs : List Float) (k : ℕ) (few : k ≤ 56) (w : Words k xs) where
       (add-most 14 (2 * n) 2 (k + k) (record { digits = digits; kept = lit≤ tt; below = omega arith }) _ _ (power-most lo n (omega arith) m) (bin-power (lo + n) (omega arith)))
 
 -- an accepted answer has the sum
-told : (v : Verdict) (x : Float) (r : Summed) → r ≡ summed v x → r .verdict ≡ Accepted → (v ≡ Accepted) × (r .power ≡ x)
+pub told : (v : Verdict) (x : Float) (r : Summed) → r ≡ summed v x → r .verdict ≡ Accepted → (v ≡ Accepted) × (r .power ≡ x)
 told Accepted x r a e = (refl, ap (λ (z : Summed). z .power) a)
 told (Refused why) x r a e = absurd (differs (sym (ap (λ (z : Summed). z .verdict) a) ∙ e))
   where
@@ -94,7 +94,7 @@ told (Refused why) x r a e = absurd (differs (sym (ap (λ (z : Summed). z .verdi
         absurd (omega arith)
 
 module _ (xs : List Float) (lo hi : ℕ) (r : Summed) (s : Powers xs lo hi r) (e : r .verdict ≡ Accepted) where
-  summing : (powerVerdict xs lo hi ≡ Accepted) × (r .power ≡ powerFrom xs lo (hi + 1 - lo))
+  pub summing : (powerVerdict xs lo hi ≡ Accepted) × (r .power ≡ powerFrom xs lo (hi + 1 - lo))
   summing = told (powerVerdict xs lo hi) (powerFrom xs lo (hi + 1 - lo)) r (s .answer) e
 
   -- its bins have numbers of at most 2 ^ 48

@@ -78,20 +78,20 @@ module _ (k : ℕ) (few : k ≤ 121) (a b t : Complex) (va : Both 1 k a) (vb : B
 
 -- ---- all cells
 
--- what is asked of the steps, each cell by its case
-module _ (s : Steps) (h : ℕ) (c t : ℕ → Complex) (P : Complex → Type 0)
-    (first : P (s .first (c 0) (c h))) (last : P (s .last (c 0) (c h)))
-    (near : (j : ℕ) → 0 < j → 2 * j < h → P (s .near (c j) (c (h - j)) (t j)))
-    (far : (j : ℕ) → 0 < j → 2 * j < h → P (s .far (c j) (c (h - j)) (t j)))
-    (centre : (j : ℕ) → 0 < j → 2 * j ≡ h → P (s .centre (c j))) where
-  end-cell : (j : ℕ) → j ≤ h → P (endCell s h c t j)
+-- what is asked of cell j, by its case
+module _ (s : Steps) (h : ℕ) (c t : ℕ → Complex) (P : ℕ → Complex → Type 0)
+    (first : P 0 (s .first (c 0) (c h))) (last : P h (s .last (c 0) (c h)))
+    (near : (j : ℕ) → 0 < j → 2 * j < h → P j (s .near (c j) (c (h - j)) (t j)))
+    (far : (j : ℕ) → 0 < j → 2 * j < h → P (h - j) (s .far (c j) (c (h - j)) (t j)))
+    (centre : (j : ℕ) → 0 < j → 2 * j ≡ h → P j (s .centre (c j))) where
+  pub end-cell : (j : ℕ) → j ≤ h → P j (endCell s h c t j)
   unfolding endCell
   end-cell j l = go (eqb j 0) (eqb j h) (ltb (2 * j) h) (eqb (2 * j) h) refl refl refl refl
     where
       go : (e f g i : Bool) → eqb j 0 ≡ e → eqb j h ≡ f → ltb (2 * j) h ≡ g → eqb (2 * j) h ≡ i
-          → P (cond e (s .first (c 0) (c h)) (cond f (s .last (c 0) (c h)) (cond g (s .near (c j) (c (h - j)) (t j)) (cond i (s .centre (c j)) (s .far (c (h - j)) (c j) (t (h - j)))))))
-      go true f g i x y z w = first
-      go false true g i x y z w = last
+          → P j (cond e (s .first (c 0) (c h)) (cond f (s .last (c 0) (c h)) (cond g (s .near (c j) (c (h - j)) (t j)) (cond i (s .centre (c j)) (s .far (c (h - j)) (c j) (t (h - j)))))))
+      go true f g i x y z w = subst (λ (n : ℕ). P n (s .first (c 0) (c h))) (sym (eqb-true j 0 x)) first
+      go false true g i x y z w = subst (λ (n : ℕ). P n (s .last (c 0) (c h))) (sym (eqb-true j h y)) last
       go false false true i x y z w = near j (some (eqb-false j 0 x)) (ltb-true (2 * j) h z)
         where
           some : (j ≡ 0 → ⊥) → 0 < j
@@ -103,7 +103,7 @@ module _ (s : Steps) (h : ℕ) (c t : ℕ → Complex) (P : Complex → Type 0)
       go false false false false x y z w =
           let a : h ≤ 2 * j = ltb-false (2 * j) h z in
           let back : h - (h - j) ≡ j = omega arith in
-          subst (λ (n : ℕ). P (s .far (c (h - j)) (c n) (t (h - j)))) back (far (h - j) (some (eqb-false j h y)) (less a (eqb-false (2 * j) h w)))
+          subst (λ (n : ℕ). P n (s .far (c (h - j)) (c n) (t (h - j)))) back (far (h - j) (some (eqb-false j h y)) (less a (eqb-false (2 * j) h w)))
         where
           some : (j ≡ h → ⊥) → 0 < h - j
           some n = omega (arith, n)
@@ -118,7 +118,7 @@ module _ (k : ℕ) (few : k ≤ 121) (h : ℕ) (some : 0 < h) (c t : ℕ → Com
 
   pub fft-cell : ((j : ℕ) → j < h → Both 1 k (c j)) → (j : ℕ) → j ≤ h → Both 1 (k + 3) (endCell fftSteps h c t j)
   fft-cell v =
-      end-cell fftSteps h c t (Both 1 (k + 3))
+      end-cell fftSteps h c t (λ j. Both 1 (k + 3))
       (three 2 _ (lit≤ tt) (record { re = add-most 6 1 1 k (six 2 k (lit≤ tt) few) _ _ (v 0 some .re) (v 0 some .im); im = zero-most 2 k }))
       (three 2 _ (lit≤ tt) (record { re = sub-most 6 1 1 k (six 2 k (lit≤ tt) few) _ _ (v 0 some .re) (v 0 some .im); im = zero-most 2 k }))
       (λ j a b. three 6 _ (lit≤ tt) (fft-near k few (c j) (c (h - j)) (t j) (v j (omega arith)) (v (h - j) (omega arith)) (ones j a b)))
@@ -131,7 +131,7 @@ module _ (k : ℕ) (few : k ≤ 121) (h : ℕ) (some : 0 < h) (c t : ℕ → Com
       let y = v h (omega arith) in
       let S = plus-both 6 1 1 k (six 2 k (lit≤ tt) few) (c 0) (c h) x y in
       let D = minus-both 6 1 1 k (six 2 k (lit≤ tt) few) (c 0) (c h) x y in
-      end-cell ifftSteps h c t (Both 1 (k + 3))
+      end-cell ifftSteps h c t (λ j. Both 1 (k + 3))
       (three 4 _ (lit≤ tt)
       (record { re = sub-most 6 2 2 k (six 4 k (lit≤ tt) few) _ _ (S .re) (S .im); im = sub-most 6 2 2 k (six 4 k (lit≤ tt) few) _ _ (D .re) (D .im) }))
       (three 1 _ (lit≤ tt) y)

@@ -16,7 +16,7 @@ use lib.Ieee.Scale.{grid}
 
 -- ---- to the nearest whole number
 
-closest-whole : (q b : ℕ) → 0 < b → closest (q * b) b ≡ q
+pub closest-whole : (q b : ℕ) → 0 < b → closest (q * b) b ≡ q
 closest-whole q b h =
     ap (λ (x : ℕ). nearest x (compare (q * b % b * 2) b)) (mul-div-cancel q h)
     ∙ ap (λ (x : ℕ). nearest q (compare (x * 2) b)) (mul-mod-left q b)
@@ -29,7 +29,7 @@ closest-whole q b h =
 -- ---- the digits dropped
 
 module _ (p n den : ℕ) (P : 0 < p) (D : 0 < den) where
-  above : 0 < drop p n den → 2 ^ (p - 1) * (den * 2 ^ drop p n den) ≤ n
+  pub above : 0 < drop p n den → 2 ^ (p - 1) * (den * 2 ^ drop p n den) ≤ n
   above K =
       let k = drop p n den in
       let w = n / den in
@@ -37,7 +37,7 @@ module _ (p n den : ℕ) (P : 0 < p) (D : 0 < den) where
       let b : 2 ^ (p - 1 + k) * den ≤ n = le-div-iff-mul-le D .0 a in
       le-trans (le-of-eq (omega (arith, ap (λ (x : ℕ). x * den) (pow-add 2 (p - 1) k)))) b
 
-  twice : 2 ^ p ≡ 2 * 2 ^ (p - 1)
+  pub twice : 2 ^ p ≡ 2 * 2 ^ (p - 1)
   twice = ap (λ (x : ℕ). 2 ^ x) (omega arith) ∙ pow-suc 2 (p - 1) ∙ mul-comm (2 ^ (p - 1)) 2
 
 -- ---- no value of p digits is passed: a fraction up to q * 2 ^ j, with q up to 2 ^ p, stays there

@@ -6,11 +6,10 @@ use mathlib.Core.List.{List}
 use lib.Ieee.{Float}
 use lib.ListN.{length, take, drop, length-drop}
 use lib.Seq.{length-take-le}
-use Rattle.plan.specs.Counts.{radix, stride, twiddleCount, twiddleStart, stageTwiddles, resultIn}
-use Rattle.plan.specs.declared.Buffer.{Buffer}
+use Rattle.plan.specs.Counts.{radix, stride, twiddleCount, twiddleStart, stageTwiddles}
 use Rattle.plan.specs.declared.Record.{Record}
 use Rattle.plan.proofs.Counts.{start-next}
-use Rattle.schedule.specs.Buffers.{Two, alternated, driven, heldIn}
+use Rattle.schedule.specs.Buffers.{Two, alternated, driven}
 use Rattle.schedule.specs.Plans.{inUse}
 use Rattle.schedule.specs.Stage.{stage}
 use Rattle.schedule.proofs.Buffers.{even-next, odd-next, driven-copied, driven-kept, driven-none}
@@ -19,7 +18,7 @@ use Rattle.twiddle.proofs.Counts.{start-up}
 use Rattle.floats.proofs.Flat.{length-flat}
 use Rattle.kernel.specs.Floats.{stageOf}
 use Rattle.kernel.specs.Parts.{Workable}
-use Rattle.stage.specs.Runs.{ownOf, stageIn, runOf, Drivable, Steppable}
+use Rattle.stage.specs.Runs.{ownOf, stageIn, Drivable, Steppable}
 
 -- the twiddles of stage k end within those of all stages
 pub own-within : (p : Record) (k : ℕ) → k < p .count → twiddleStart (p .half) (p .radices) k + twiddleCount (p .half) (p .radices) k ≤ stageTwiddles p
