@@ -85,7 +85,7 @@ static void direction(size_t n, int back)
     size_t length = list_of(list, n), h = n / 2, stages = ladlespindle_stages(list, length);
     size_t width = (size_t)1 << random_below(3), in = back ? n + 2 : n, out = back ? n : n + 2;
     size_t stage_words = 2 * ladlespindle_stage_twiddles(list, length), end_words = 2 * ladlespindle_end_twiddles(list, length);
-    double unit = (double)h / (1 << 24), distance = back ? (double)(91 * stages + 25) * unit : (double)(45 * stages + 21) * unit;
+    double unit = (double)h / (1 << 24), distance = back ? (double)(64 * stages + 25) * unit : (double)(33 * stages + 20) * unit;
     ladlespindle_record plan = ladlespindle_plan(list, length);
     ladlespindle_answer a = (back ? ladlespindle_fill_inverse : ladlespindle_fill_forward)(plan, width, stage, stage_words, end, end_words);
     check_at(a.number == 0, "filling", n, "refused");
@@ -99,7 +99,7 @@ static void direction(size_t n, int back)
 }
 
 /* 1,680 samples of 16 bits: a tone of amplitude 33 at any bin but the ends, of any phase, is answered with 0.65 or more; and the loudest
- * block that has all its power in bin 840, tried at k = 0, with at most 1/1,500 for each other bin. */
+ * block that has all its power in bin 840, tried at k = 0, with at most 1/1,800 for each other bin. */
 static void hive(void)
 {
     enum { N = 1680, HALF = N / 2, AMPLITUDE = 33 };
@@ -116,7 +116,7 @@ static void hive(void)
         ladlespindle_answer a = ladlespindle_forward(plan, 1, input, N, output, N + 2, scratch, 6 * N, stage, words, end, ends);
         ladlespindle_summed sum = ladlespindle_power(output, N + 2, k, k == 0 ? HALF - 1 : k);
         check_at(a.number == 0 && sum.number == 0, "a tone's block", k, "refused");
-        check_at(k == 0 ? sum.power * 1500 <= HALF : sum.power >= 0.65f, "a tone", k, k == 0 ? "heard where it is not" : "not heard");
+        check_at(k == 0 ? sum.power * 1800 <= HALF : sum.power >= 0.65f, "a tone", k, k == 0 ? "heard where it is not" : "not heard");
     }
 }
 

@@ -110,7 +110,7 @@ real-val x = refl
 
 -- ---- all bins
 
-module _ (d h : ℕ) (circle : d * (h * 2) ≡ 6720) (some : 0 < h) (E : ℕ) (fine : E ≤ 2 ^ 66)
+module _ (d h : ℕ) (circle : d * (h * 2) ≡ 6720) (some : 0 < h) (E F : ℕ) (fine : E ≤ 2 ^ 66) (root : 2 * ((2 ^ 60 + 1) * (2 ^ 60 + 1) * (E * E)) ≤ 2 ^ 60 * 2 ^ 60 * (F * F))
     (y : ℕ → Signed) (a : ℕ → ℕ) (sized : (u : ℕ) → u < h → Disc (2 ^ 20 * a u) (paired y u)) (big : 2 ^ 20 ≤ sumN h a) (most : sumN h a ≤ 2 ^ 220)
     (c t : ℕ → Complex) (held : (k : ℕ) → k < h → Held binary32 (c k .re) × Held binary32 (c k .im))
     (number : (k : ℕ) → k < h → Off (E * sumN h a) (scaleG (2 ^ 60) (valC (c k))) (dft house (d * 2) h (paired y) k))
@@ -151,9 +151,9 @@ module _ (d h : ℕ) (circle : d * (h * 2) ≡ 6720) (some : 0 < h) (E : ℕ) (f
       none u = omega arith
 
   from : (k : ℕ) → k ≤ h → (X A B : Gauss) → Off ((13 * 2 ^ 57 + 2 ^ 50) * ω) (scaleG (2 * 2 ^ 60) X) (plusG (scaleG (2 ^ 60) (plusG A (conjG B))) (timesG (quarter (minusG A (conjG B))) (house (d * k))))
-      → Off (E * ω) (scaleG (2 ^ 60) A) (Z k) → Off (E * ω) (scaleG (2 ^ 60) B) (Z (h - k)) → Off ((2 * E + 13 * 2 ^ 56 + 2 ^ 50) * ω) (scaleG (2 ^ 60) X) (spectrum house d h y k)
+      → Off (E * ω) (scaleG (2 ^ 60) A) (Z k) → Off (E * ω) (scaleG (2 ^ 60) B) (Z (h - k)) → Off ((F + 13 * 2 ^ 56 + 2 ^ 50) * ω) (scaleG (2 ^ 60) X) (spectrum house d h y k)
   from k l X A B stepped oa ob =
-      joined (2 ^ 60) E ω (le-trans fine (lit≤ tt)) (pow-pos 60) X A B (Z k) (Z (h - k)) (house (d * k)) (spectrum house d h y k) (turns .norm (d * k)) stepped oa ob
+      joined (2 ^ 60) E F ω root (pow-pos 60) X A B (Z k) (Z (h - k)) (house (d * k)) (spectrum house d h y k) (turns .norm (d * k)) stepped oa ob
       (halves (2 ^ 60) 6720 house turns d h circle house-conj y k l a (small d k h l circle) (lit≤ tt) (λ u m. part-disc (2 ^ 20 * a u) (y (u * 2 + 0)) (y (u * 2 + 1)) (sized u m)))
     where
       small : (d k h : ℕ) → k ≤ h → d * (h * 2) ≡ 6720 → d * k ≤ 2 ^ 14
@@ -168,7 +168,7 @@ module _ (d h : ℕ) (circle : d * (h * 2) ≡ 6720) (some : 0 < h) (E : ℕ) (f
 
   -- z is bin k, within a stated distance
   abbrev Near : ℕ → Complex → Type 0
-  Near k z = Held binary32 (z .re) × Held binary32 (z .im) × Off ((2 * E + 13 * 2 ^ 56 + 2 ^ 50) * ω) (scaleG (2 ^ 60) (valC z)) (spectrum house d h y k)
+  Near k z = Held binary32 (z .re) × Held binary32 (z .im) × Off ((F + 13 * 2 ^ 56 + 2 ^ 50) * ω) (scaleG (2 ^ 60) (valC z)) (spectrum house d h y k)
 
   first-bin : Near 0 (fftSteps .first (c 0) (c h))
   first-bin =

@@ -4,7 +4,7 @@ use mathlib.Core.List.{List, [], _∷_}
 use Prim.Native.Nat.{ℕ, zero, suc, _+_, _-_, _*_, _^_, _≤_, _<_, zero-le}
 use native.Mathlib.Nat.{le-trans, le-of-eq, le-of-lt, mul-le-mul, mul-le-mul-left, mul-le-mul-right, le-of-mul-le-mul-right}
 use native.Mathlib.Omega.{arith}
-use lib.Dec.{T, lit≤}
+use lib.Dec.{T, lit≤, lit<}
 use lib.Pow.{pow-add, pow-mono}
 use lib.ListN.{length, getD}
 use lib.Ieee.{Float, nan, inf, fin, binary32, fits, down}
@@ -103,21 +103,35 @@ unfolding error
 error-stages rs eight zero l = zero-le
 error-stages rs eight (suc j) l = omega (arith, error-stages rs eight j (le-of-lt l), eight j l)
 
--- an error of c * 2 ^ 56 for each weight, in the distance's terms
-pub scaled : (c h j : ℕ) → 2 * c * 2 ^ 56 * (h * (3 * 2 ^ (20 + j))) ≡ 3 * c * (h * 2 ^ (77 + j))
-scaled c h j =
+-- R for each weight, in the distance's terms
+pub scaled : (R C h j : ℕ) → 3 * R ≤ 2 * C * 2 ^ 56 → R * (h * (3 * 2 ^ (20 + j))) ≤ C * (h * 2 ^ (77 + j))
+scaled R C h j l =
     let e : 2 ^ (57 + (20 + j)) ≡ 2 ^ 57 * 2 ^ (20 + j) = pow-add 2 57 (20 + j) in
     let f : 57 + (20 + j) ≡ 77 + j = omega arith in
-    order c h (2 ^ 56) (2 ^ 57) (2 ^ (20 + j)) refl ∙ ap (λ (n : ℕ). 3 * c * (h * n)) (sym e ∙ ap (λ (n : ℕ). 2 ^ n) f)
+    le-trans (plain (2 ^ (20 + j))) (le-of-eq (ap (λ (n : ℕ). C * (h * n)) (sym e ∙ ap (λ (n : ℕ). 2 ^ n) f)))
   where
-    order : (c h s t w : ℕ) → t ≡ 2 * s → 2 * c * s * (h * (3 * w)) ≡ 3 * c * (h * (t * w))
-    order c h s t w e = sym (ap (λ (n : ℕ). 3 * c * (h * (n * w))) e ∙ again c h s w)
-      where
-        again : (c h s w : ℕ) → 3 * c * (h * (2 * s * w)) ≡ 2 * c * s * (h * (3 * w))
-        again c h s w = omega arith
+    plain : (y : ℕ) → R * (h * (3 * y)) ≤ C * (h * (2 ^ 57 * y))
+    plain y = omega (arith, mul-le-mul-right (h * y) l)
 
-pub total-error : (E j : ℕ) → j ≤ 13 → E ≤ j * (15 * 2 ^ 56 + 2 ^ 51) → 2 * E + 13 * 2 ^ 56 + 2 ^ 50 ≤ 2 * (15 * j + 7) * 2 ^ 56
-total-error E j a b = omega arith
+-- 2829 / 2000 is more than a root of 2
+pub root-of-two : (K E F : ℕ) → 2 ^ 20 ≤ K → 2829 * E ≤ 2000 * F → 2 * ((K + 1) * (K + 1) * (E * E)) ≤ K * K * (F * F)
+root-of-two K E F k l =
+    let a : K * K * (2829 * E * (2829 * E)) ≤ K * K * (2000 * F * (2000 * F)) = mul-le-mul-left (K * K) (mul-le-mul l l) in
+    let b : 8000000 * ((K + 1) * (K + 1)) ≤ 8003241 * (K * K) = wider in
+    let c : 8000000 * ((K + 1) * (K + 1)) * (E * E) ≤ 8003241 * (K * K) * (E * E) = mul-le-mul-right (E * E) b in
+    le-of-mul-le-mul-right {k = 4000000} (join (K * K) ((K + 1) * (K + 1)) (E * E) (F * F) _ _ c a (order (K * K) E) (order' (K * K) F)) (lit< tt)
+  where
+    wider : 8000000 * ((K + 1) * (K + 1)) ≤ 8003241 * (K * K)
+    wider = omega (arith, mul-le-mul-right K k)
+
+    order : (n E : ℕ) → n * (2829 * E * (2829 * E)) ≡ 8003241 * n * (E * E)
+    order n E = omega arith
+
+    order' : (n F : ℕ) → n * (2000 * F * (2000 * F)) ≡ 4000000 * (n * (F * F))
+    order' n F = omega arith
+
+    join : (N M e f x y : ℕ) → 8000000 * M * e ≤ 8003241 * N * e → x ≤ y → x ≡ 8003241 * N * e → y ≡ 4000000 * (N * f) → 2 * (M * e) * 4000000 ≤ N * f * 4000000
+    join N M e f x y c a p q = omega arith
 
 -- ---- the same for the inverse
 
@@ -135,19 +149,19 @@ tenth-least b =
     let l : 2 ^ 10 ≤ 2 ^ (10 + b) = pow-mono {i = 10} {j = 10 + b} (omega arith) in
     le-trans (lit≤ tt) (mul-le-mul-left 3 l)
 
-pub tenth-most : (h b : ℕ) → h ≤ 4096 → b ≤ 164 → h * (4097 * (3 * 2 ^ (10 + b))) ≤ 2 ^ 220
+pub tenth-most : (h b : ℕ) → h ≤ 4096 → b ≤ 164 → h * (2898 * (3 * 2 ^ (10 + b))) ≤ 2 ^ 220
 tenth-most h b k l =
     let m : 2 ^ (10 + b) ≤ 2 ^ 174 = pow-mono {i = 10 + b} {j = 174} (omega arith) in
-    le-trans (mul-le-mul k (mul-le-mul-left 4097 (mul-le-mul-left 3 m))) (lit≤ tt)
+    le-trans (mul-le-mul k (mul-le-mul-left 2898 (mul-le-mul-left 3 m))) (lit≤ tt)
 
 pub inverse-total : (E j h b : ℕ) → E ≤ j * (15 * 2 ^ 56 + 2 ^ 51)
-    → E * (h * (4097 * (3 * 2 ^ (10 + b)))) + h * ((2 ^ 60 + 2 ^ 51) * (1024 * (3 * 2 ^ (10 + b)))) ≤ (91 * j + 25) * (h * 2 ^ (77 + b))
+    → E * (h * (2898 * (3 * 2 ^ (10 + b)))) + h * ((2 ^ 60 + 2 ^ 51) * (1024 * (3 * 2 ^ (10 + b)))) ≤ (64 * j + 25) * (h * 2 ^ (77 + b))
 inverse-total E j h b l =
     let e : 2 ^ (67 + (10 + b)) ≡ 2 ^ 67 * 2 ^ (10 + b) = pow-add 2 67 (10 + b) in
     let f : 67 + (10 + b) ≡ 77 + b = omega arith in
-    le-trans (plain (2 ^ (10 + b))) (le-of-eq (ap (λ (n : ℕ). (91 * j + 25) * (h * n)) (sym e ∙ ap (λ (n : ℕ). 2 ^ n) f)))
+    le-trans (plain (2 ^ (10 + b))) (le-of-eq (ap (λ (n : ℕ). (64 * j + 25) * (h * n)) (sym e ∙ ap (λ (n : ℕ). 2 ^ n) f)))
   where
-    plain : (y : ℕ) → E * (h * (4097 * (3 * y))) + h * ((2 ^ 60 + 2 ^ 51) * (1024 * (3 * y))) ≤ (91 * j + 25) * (h * (2 ^ 67 * y))
+    plain : (y : ℕ) → E * (h * (2898 * (3 * y))) + h * ((2 ^ 60 + 2 ^ 51) * (1024 * (3 * y))) ≤ (64 * j + 25) * (h * (2 ^ 67 * y))
     plain y = omega (arith, mul-le-mul-right (h * y) l)
 
 -- ---- one number by another
@@ -155,7 +169,7 @@ inverse-total E j h b l =
 pub at-least : (T Z a S : ℕ) → 0 < Z → a ≤ Z * (S + 2) → T * Z + 200 * Z ≤ 100 * a → T ≤ 100 * S
 at-least T Z a S pos l m = le-of-mul-le-mul-right {k = Z} (omega arith) pos
 
-pub at-most : (T Y X n S : ℕ) → 0 < Y → 512 * (Y * S) ≤ 513 * (n * X) → 1500 * 513 * X ≤ 512 * Y * T → 1500 * S ≤ n * T
+pub at-most : (T Y X n S : ℕ) → 0 < Y → 512 * (Y * S) ≤ 513 * (n * X) → 1800 * 513 * X ≤ 512 * Y * T → 1800 * S ≤ n * T
 at-most T Y X n S pos l m = le-of-mul-le-mul-right {k = Y} (omega (arith, mul-le-mul-left n m)) pos
 
 -- 16-bit samples divided by 32,768 are at most 1

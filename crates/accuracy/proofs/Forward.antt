@@ -157,8 +157,8 @@ module _ (p : Record) (W : ℕ) (lent : Slices) (v : Verdict) (tw : Slices) (fil
         (run-off (d * 2) h (told .pairs) rs (use-product p (told .planned)) (told .some) (told .eight) (told .short) (pairsOf xs) pair-held a sized' least total k l)
 
     -- every bin that the call leaves, for each weight
-    pub bin-near : (k : ℕ) → k ≤ h → Held binary32 (cell (after .0) k .re) × Held binary32 (cell (after .0) k .im)
-        × Off ((2 * error rs (length rs) + 13 * 2 ^ 56 + 2 ^ 50) * sumN h a) (scaleG (2 ^ 60) (valC (cell (after .0) k))) (spectrum house d h (sample xs) k)
-    bin-near k l =
-        subst (λ (z : Complex). Held binary32 (z .re) × Held binary32 (z .im) × Off ((2 * error rs (length rs) + 13 * 2 ^ 56 + 2 ^ 50) * sumN h a) (scaleG (2 ^ 60) (valC z)) (spectrum house d h (sample xs) k)) (sym (bin-is k l))
-        (bins-near d h (told .circle) (told .some) (error rs (length rs)) fine (sample xs) a sized (sumN-least h a (2 ^ 20) (told .some) least) total (cell (flat ran)) (endLent (tw .1)) ran-held ran-off end-close k l)
+    pub bin-near : (F : ℕ) → 2 * ((2 ^ 60 + 1) * (2 ^ 60 + 1) * (error rs (length rs) * error rs (length rs))) ≤ 2 ^ 60 * 2 ^ 60 * (F * F) → (k : ℕ) → k ≤ h → Held binary32 (cell (after .0) k .re) × Held binary32 (cell (after .0) k .im)
+        × Off ((F + 13 * 2 ^ 56 + 2 ^ 50) * sumN h a) (scaleG (2 ^ 60) (valC (cell (after .0) k))) (spectrum house d h (sample xs) k)
+    bin-near F root k l =
+        subst (λ (z : Complex). Held binary32 (z .re) × Held binary32 (z .im) × Off ((F + 13 * 2 ^ 56 + 2 ^ 50) * sumN h a) (scaleG (2 ^ 60) (valC z)) (spectrum house d h (sample xs) k)) (sym (bin-is k l))
+        (bins-near d h (told .circle) (told .some) (error rs (length rs)) F fine root (sample xs) a sized (sumN-least h a (2 ^ 20) (told .some) least) total (cell (flat ran)) (endLent (tw .1)) ran-held ran-off end-close k l)

@@ -170,7 +170,7 @@ module _ (p : Record) (W : ℕ) (lent : Slices) (v : Verdict) (tw : Slices) (fil
 
   -- ---- sizes: 1024 a for each number of a bin, in parts of 2 ^ 20
 
-  module _ (a : ℕ) (sized : (k : ℕ) → k ≤ h → Around (2 ^ 20 * (1024 * a)) (cell xs k)) (least : 2 ^ 10 ≤ a) (most : h * (4097 * a) ≤ 2 ^ 220) where
+  module _ (a : ℕ) (sized : (k : ℕ) → k ≤ h → Around (2 ^ 20 * (1024 * a)) (cell xs k)) (least : 2 ^ 10 ≤ a) (most : h * (2898 * a) ≤ 2 ^ 220) where
     abbrev b : ℕ → Gauss
     b = binTaken h (cell xs)
 
@@ -178,9 +178,9 @@ module _ (p : Record) (W : ℕ) (lent : Slices) (v : Verdict) (tw : Slices) (fil
     big = le-trans (lit≤ tt) (mul-le-mul-left 1024 least)
 
     few : 1024 * a ≤ 2 ^ 220
-    few = le-trans (one (4097 * a) h (told .some) (less a)) most
+    few = le-trans (one (2898 * a) h (told .some) (less a)) most
       where
-        less : (a : ℕ) → 1024 * a ≤ 4097 * a
+        less : (a : ℕ) → 1024 * a ≤ 2898 * a
         less a = omega arith
 
         one : (x h : ℕ) → 0 < h → 1024 * a ≤ x → 1024 * a ≤ h * x
@@ -197,10 +197,10 @@ module _ (p : Record) (W : ℕ) (lent : Slices) (v : Verdict) (tw : Slices) (fil
         subst (λ (y : Complex). Held binary32 (y .re) × Held binary32 (y .im) × Off ((2 ^ 60 + 2 ^ 50) * (1024 * a)) (scaleG (2 ^ 60) (valC y)) (prepared d h (told .circle) b k)) (sym (read-cell k l))
         (o .0, neg-held binary32 (z .im) (o .1), off-eq _ _ _ _ _ (ap (scaleG (2 ^ 60)) (sym (conj-val z))) refl (o .2))
 
-    is-sized : (k : ℕ) → k < h → Disc (2 ^ 20 * (4097 * a)) (valC (getD inputs k blank))
+    is-sized : (k : ℕ) → k < h → Disc (2 ^ 20 * (2898 * a)) (valC (getD inputs k blank))
     is-sized k l =
         let z = endCell ifftSteps h (cell xs) (endLent (tw .1)) k in
-        subst (Disc (2 ^ 20 * (4097 * a))) (sym (ap valC (read-cell k l) ∙ conj-val z)) (cell-disc d h (told .circle) (told .some) (1024 * a) big few (cell xs) (endLent (tw .1)) sized end-close a refl k l)
+        subst (Disc (2 ^ 20 * (2898 * a))) (sym (ap valC (read-cell k l) ∙ conj-val z)) (cell-disc d h (told .circle) (told .some) (1024 * a) big few (cell xs) (endLent (tw .1)) sized end-close a refl k l)
 
     abbrev E : ℕ
     E = error rs (length rs)
@@ -208,31 +208,31 @@ module _ (p : Record) (W : ℕ) (lent : Slices) (v : Verdict) (tw : Slices) (fil
     ran-is : (u : ℕ) → getD ran u blank ≡ getD (run (floats (turning rs)) h rs (length rs) inputs) u blank
     ran-is u = ap (λ (n : ℕ). getD (run (floats (turning rs)) h rs n inputs) u blank) (sym (use-length p (told .planned)))
 
-    enough : (u : ℕ) → u < h → 2 ^ 20 ≤ 4097 * a
-    enough u l = le-trans (lit≤ tt) (mul-le-mul-left 4097 least)
+    enough : (u : ℕ) → u < h → 2 ^ 20 ≤ 2898 * a
+    enough u l = le-trans (lit≤ tt) (mul-le-mul-left 2898 least)
 
-    total : sumN h (λ k. 4097 * a) ≤ 2 ^ 220
-    total = le-trans (le-of-eq (constant h (4097 * a))) most
+    total : sumN h (λ k. 2898 * a) ≤ 2 ^ 220
+    total = le-trans (le-of-eq (constant h (2898 * a))) most
 
     ran-held : (u : ℕ) → u < h → Held binary32 (getD ran u blank .re) × Held binary32 (getD ran u blank .im)
     ran-held u l =
         subst (λ (z : Complex). Held binary32 (z .re) × Held binary32 (z .im)) (sym (ran-is u))
-        (run-held (d * 2) h (told .pairs) rs (use-product p (told .planned)) (told .some) (told .eight) (told .short) inputs (λ k m. (is-ready k m .0, is-ready k m .1)) (λ k. 4097 * a) is-sized enough total u l)
+        (run-held (d * 2) h (told .pairs) rs (use-product p (told .planned)) (told .some) (told .eight) (told .short) inputs (λ k m. (is-ready k m .0, is-ready k m .1)) (λ k. 2898 * a) is-sized enough total u l)
 
-    ran-off : (u : ℕ) → u < h → Off (E * (h * (4097 * a))) (scaleG (2 ^ 60) (valC (getD ran u blank))) (dft house (d * 2) h (λ k. valC (getD inputs k blank)) u)
+    ran-off : (u : ℕ) → u < h → Off (E * (h * (2898 * a))) (scaleG (2 ^ 60) (valC (getD ran u blank))) (dft house (d * 2) h (λ k. valC (getD inputs k blank)) u)
     ran-off u l =
         off-eq _ _ _ _ _ (ap (λ (z : Complex). scaleG (2 ^ 60) (valC z)) (sym (ran-is u))) refl
-        (off-more _ _ _ _ (le-of-eq (ap (λ (n : ℕ). E * n) (constant h (4097 * a))))
-        (run-off (d * 2) h (told .pairs) rs (use-product p (told .planned)) (told .some) (told .eight) (told .short) inputs (λ k m. (is-ready k m .0, is-ready k m .1)) (λ k. 4097 * a) is-sized enough total u l))
+        (off-more _ _ _ _ (le-of-eq (ap (λ (n : ℕ). E * n) (constant h (2898 * a))))
+        (run-off (d * 2) h (told .pairs) rs (use-product p (told .planned)) (told .some) (told .eight) (told .short) inputs (λ k m. (is-ready k m .0, is-ready k m .1)) (λ k. 2898 * a) is-sized enough total u l))
 
     -- the stages on what was prepared, against the stages on what was prepared exactly
     abbrev D : ℕ
-    D = 2 ^ 60 * (E * (h * (4097 * a))) + h * ((2 ^ 60 + 2 ^ 50) * (1024 * a) * (2 ^ 60 + 1))
+    D = 2 ^ 60 * (E * (h * (2898 * a))) + h * ((2 ^ 60 + 2 ^ 50) * (1024 * a) * (2 ^ 60 + 1))
 
     made-off : (u : ℕ) → u < h → Off D (scaleG (2 ^ 60) (scaleG (2 ^ 60) (valC (getD ran u blank)))) (dft house (d * 2) h N u)
     unfolding dft
     made-off u l =
-        off-more _ _ _ _ (le-of-eq (ap (λ (n : ℕ). 2 ^ 60 * (E * (h * (4097 * a))) + n) (constant h ((2 ^ 60 + 2 ^ 50) * (1024 * a) * (2 ^ 60 + 1)))))
+        off-more _ _ _ _ (le-of-eq (ap (λ (n : ℕ). 2 ^ 60 * (E * (h * (2898 * a))) + n) (constant h ((2 ^ 60 + 2 ^ 50) * (1024 * a) * (2 ^ 60 + 1)))))
         (off-trans _ _ _ _ _ (off-scale (2 ^ 60) _ _ _ (ran-off u l))
         (off-eq _ _ _ _ _ (sym (sum-scale h (λ k. timesG (valC (getD inputs k blank)) (house (d * 2 * (k * u)))) (2 ^ 60))) refl
         (off-sum h (λ k. (2 ^ 60 + 2 ^ 50) * (1024 * a) * (2 ^ 60 + 1)) (λ k. scaleG (2 ^ 60) (timesG (valC (getD inputs k blank)) (house (d * 2 * (k * u))))) (λ k. timesG (N k) (house (d * 2 * (k * u))))
@@ -256,7 +256,7 @@ module _ (p : Record) (W : ℕ) (lent : Slices) (v : Verdict) (tw : Slices) (fil
     negated D x y n = omega arith
 
     abbrev R : ℕ
-    R = E * (h * (4097 * a)) + h * ((2 ^ 60 + 2 ^ 51) * (1024 * a))
+    R = E * (h * (2898 * a)) + h * ((2 ^ 60 + 2 ^ 51) * (1024 * a))
 
     room : (K h x t : ℕ) → 2 ^ 50 ≤ K → K * t + h * ((K + 2 ^ 50) * x * (K + 1)) + h * (2 ^ 39 * K * (4 * x)) ≤ (t + h * ((K + 2 ^ 51) * x)) * K
     room K h x t l = omega (arith, mul-le-mul-right (h * x) l)
@@ -282,9 +282,9 @@ module _ (p : Record) (W : ℕ) (lent : Slices) (v : Verdict) (tw : Slices) (fil
         × NearZ R (scale (2 ^ 60) (val binary32 (y .im))) (synthesis house d h b (2 * u + 1))) (sym (left-cell u l)) (
           ran-held u l .0,
           neg-held binary32 (z .im) (ran-held u l .1),
-          divided (2 ^ 60) (D + 0) R (scale (2 ^ 60) (val binary32 (z .re))) (synthesis house d h b (2 * u)) (pow-pos 60) (less D _ _ (room (2 ^ 60) h (1024 * a) (E * (h * (4097 * a))) (lit≤ tt))) (joined D 0 _ _ _ re-near even),
+          divided (2 ^ 60) (D + 0) R (scale (2 ^ 60) (val binary32 (z .re))) (synthesis house d h b (2 * u)) (pow-pos 60) (less D _ _ (room (2 ^ 60) h (1024 * a) (E * (h * (2898 * a))) (lit≤ tt))) (joined D 0 _ _ _ re-near even),
           subst (λ (s : Signed). NearZ R (scale (2 ^ 60) s) (synthesis house d h b (2 * u + 1))) (sym (neg-val binary32 (z .im)))
-              (divided (2 ^ 60) (D + h * (2 ^ 39 * 2 ^ 60 * (4 * (1024 * a)))) R (scale (2 ^ 60) (negZ (val binary32 (z .im)))) (synthesis house d h b (2 * u + 1)) (pow-pos 60) (room (2 ^ 60) h (1024 * a) (E * (h * (4097 * a))) (lit≤ tt))
+              (divided (2 ^ 60) (D + h * (2 ^ 39 * 2 ^ 60 * (4 * (1024 * a)))) R (scale (2 ^ 60) (negZ (val binary32 (z .im)))) (synthesis house d h b (2 * u + 1)) (pow-pos 60) (room (2 ^ 60) h (1024 * a) (E * (h * (2898 * a))) (lit≤ tt))
               (negated _ (scale (2 ^ 60) (scale (2 ^ 60) (val binary32 (z .im)))) (scale (2 ^ 60) (negZ (synthesis house d h b (2 * u + 1)))) (joined D _ _ _ _ im-near odd))),
         )
       where

@@ -22,6 +22,7 @@ pub mod Run
 pub mod Filled
 pub mod Halves
 pub mod Ends
+pub mod Formed
 pub mod Joined
 pub mod Bins
 pub mod Forward

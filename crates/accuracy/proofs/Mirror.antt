@@ -7,15 +7,16 @@ use lib.Dec.{lit≤, lit<}
 use Rattle.accuracy.specs.Gauss.{Gauss, plusG, minusG, timesG, scaleG, Disc, Off, sumG}
 use Rattle.accuracy.specs.House.{house}
 use Rattle.accuracy.specs.Spectrum.{realG, sumZ, along, synthesis}
-use Rattle.accuracy.specs.Value.{Signed, NearZ, zeroZ, negZ, plusZ, minusZ, scale}
+use Rattle.accuracy.specs.Value.{Signed, NearZ, zeroZ, negZ, plusZ, scale}
 use Rattle.accuracy.proofs.Blocks.{circles, one-turned}
 use Rattle.accuracy.proofs.Circle.{quarter, spin}
 use Rattle.accuracy.proofs.Complexes.{part-im, abs-near}
 use Rattle.accuracy.proofs.Conjugate.{conjG}
 use Rattle.accuracy.proofs.Dft.{dft}
 use Rattle.accuracy.proofs.Ends.{negG}
+use Rattle.accuracy.proofs.Formed.{formed, same-turned}
 use Rattle.accuracy.proofs.House.{turns, house-conj, house-whole, house-mirror}
-use Rattle.accuracy.proofs.Plane.{Same, off-same, same-times}
+use Rattle.accuracy.proofs.Plane.{Same, off-same}
 use Rattle.accuracy.proofs.Sums.{gauss, plus-times}
 use Rattle.accuracy.proofs.Turning.{rotate, same-self, same-scale-right}
 
@@ -109,26 +110,12 @@ sum-twice n f e =
 
 -- ---- a pair of bins
 
--- a bin a and its mirror image c, prepared exactly: what the stages read
-abbrev pub formed : (G : ℕ) (a c w : Gauss) → Gauss
-formed G a c w = plusG (scaleG G (plusG a (conjG c))) (timesG (quarter (minusG a (conjG c))) w)
-
 -- the mirror image of a turn in the other half of the circle
 abbrev mirrored : Gauss → Gauss
 mirrored w = record { re = negZ (w .re); im = w .im }
 
 flipped : (G : ℕ) (A B w : Gauss) → Same (formed G B A (mirrored w)) (conjG (minusG (scaleG G (plusG A (conjG B))) (timesG (quarter (minusG A (conjG B))) w)))
 flipped G A B w = (omega arith, omega arith)
-
-same-turned : (z z' t : Gauss) → Same z z' → Same (timesG z t) (timesG z' t)
-same-turned z z' t e =
-    let self : (x : Signed) → NearZ 0 x x = λ x. omega arith in
-    together _ _ _ _ _ _ _ _ (same-times (z .re) (z' .re) (t .re) (t .re) (e .0) (self (t .re))) (same-times (z .im) (z' .im) (t .im) (t .im) (e .1) (self (t .im)))
-    (same-times (z .re) (z' .re) (t .im) (t .im) (e .0) (self (t .im))) (same-times (z .im) (z' .im) (t .re) (t .re) (e .1) (self (t .re)))
-  where
-    together : (a b c d a' b' c' d' : Signed) → NearZ 0 a a' → NearZ 0 b b' → NearZ 0 c c' → NearZ 0 d d'
-        → NearZ 0 (minusZ a b) (minusZ a' b') × NearZ 0 (plusZ c d) (plusZ c' d')
-    together a b c d a' b' c' d' p q r s = (omega arith, omega arith)
 
 -- one turned by v and the other back
 over-sum : (G : ℕ) (q s v : Gauss) → Same (timesG (plusG (scaleG G q) s) v) (plusG (scaleG G (timesG q v)) (timesG s v))

@@ -23,9 +23,10 @@ use Rattle.accuracy.proofs.Complexes.{plus-off, part-re, part-im}
 use Rattle.accuracy.proofs.Conjugate.{conjG}
 use Rattle.accuracy.proofs.Ends.{conj-disc, quarter-disc, negC, negG, neg-valC, neg-both-disc, neg-around, same-60, same-60-sum, ifft-near-off, ifft-far-off, conj-val}
 use Rattle.accuracy.proofs.Floats.{plusC}
+use Rattle.accuracy.proofs.Formed.{formed, formed-disc}
 use Rattle.accuracy.proofs.House.{turns, house-whole, house-mirror}
-use Rattle.accuracy.proofs.Mirror.{formed, prepared}
-use Rattle.accuracy.proofs.Plane.{two-products, Same, off-same, off-eq, off-more, off-trans, off-plus, off-scale, disc-near, disc-unscale, disc-more, disc-scale, disc-plus, disc-same, disc-times}
+use Rattle.accuracy.proofs.Mirror.{prepared}
+use Rattle.accuracy.proofs.Plane.{real-both, Same, off-same, off-eq, off-more, off-trans, off-plus, off-scale, disc-near, disc-unscale, disc-more, disc-scale, disc-plus, disc-same}
 use Rattle.accuracy.proofs.Rounds.{Around}
 use Rattle.accuracy.proofs.Turning.{same-self}
 use Rattle.accuracy.proofs.Turns.{Close}
@@ -59,35 +60,21 @@ first-form : (G : ℕ) (x y : Gauss)
 first-form G x y = (omega arith, omega arith)
 
 -- its size
-first-disc : (m : ℕ) (x y : Gauss) → Disc m x → Disc m y → Disc (4 * m) (firstG x y)
-first-disc m x y p q =
-    record {
-      inside =
-          four (absZ (x .re)) (absZ (x .im)) (absZ (y .re)) (absZ (y .im)) _ _ m (p .inside) (q .inside)
-          (sums (x .re) (x .im) (y .re) (y .im) .0) (sums (x .re) (x .im) (y .re) (y .im) .1);
-    }
+first-disc : (m ρ : ℕ) (x y : Gauss) → 8 * (m * m) ≤ ρ * ρ → Disc m x → Disc m y → Disc ρ (firstG x y)
+first-disc m ρ x y room p q =
+    let a = minusZ (x .re) (x .im) in
+    let c = minusZ (y .re) (y .im) in
+    disc-same ρ (record { re = plusZ a c; im = minusZ a c }) (firstG x y) (omega arith) (omega arith)
+    (record { inside = le-trans (le-of-eq (real-both a c)) (le-trans (together _ _ (folded-square x p) (folded-square y q)) room) })
   where
-    sums : (a b c d : Signed) → (absZ (minusZ (plusZ a c) (plusZ b d)) ≤ absZ a + absZ b + absZ c + absZ d) × (absZ (minusZ (minusZ a c) (minusZ b d)) ≤ absZ a + absZ b + absZ c + absZ d)
-    sums a b c d = (
-      chain (plusZ a c) (plusZ b d) (apart (plusZ a c) (plusZ b d)) (together a c) (together b d),
-      chain (minusZ a c) (minusZ b d) (apart (minusZ a c) (minusZ b d)) (apart a c) (apart b d),
-    )
+    folded-square : (x : Gauss) → Disc m x → absZ (minusZ (x .re) (x .im)) * absZ (minusZ (x .re) (x .im)) ≤ 2 * (m * m)
+    folded-square x p = plain _ _ _ _ (real-both (x .re) (x .im)) (p .inside)
       where
-        together : (x y : Signed) → absZ (plusZ x y) ≤ absZ x + absZ y
-        together x y = omega arith
+        plain : (s t a b : ℕ) → s + t ≡ 2 * a + 2 * b → a + b ≤ m * m → t ≤ 2 * (m * m)
+        plain s t a b e l = omega arith
 
-        apart : (x y : Signed) → absZ (minusZ x y) ≤ absZ x + absZ y
-        apart x y = omega arith
-
-        chain : (x y : Signed) → absZ (minusZ x y) ≤ absZ x + absZ y → absZ x ≤ absZ a + absZ c → absZ y ≤ absZ b + absZ d → absZ (minusZ x y) ≤ absZ a + absZ b + absZ c + absZ d
-        chain x y e f g = plain (absZ (minusZ x y)) (absZ x) (absZ y) (absZ a) (absZ b) (absZ c) (absZ d) e f g
-          where
-            plain : (s x y a b c d : ℕ) → s ≤ x + y → x ≤ a + c → y ≤ b + d → s ≤ a + b + c + d
-            plain s x y a b c d e f g = omega arith
-
-    four : (a b c d s t m : ℕ) → a * a + b * b ≤ m * m → c * c + d * d ≤ m * m → s ≤ a + b + c + d → t ≤ a + b + c + d → s * s + t * t ≤ 4 * m * (4 * m)
-    four a b c d s t m e f g i =
-        omega (arith, mul-le-mul g g, mul-le-mul i i, two-products a b, two-products a c, two-products a d, two-products b c, two-products b d, two-products c d)
+    together : (s t : ℕ) → s ≤ 2 * (m * m) → t ≤ 2 * (m * m) → 2 * s + 2 * t ≤ 8 * (m * m)
+    together s t k l = omega arith
 
 -- ---- one part of a number, twice
 
@@ -368,35 +355,39 @@ module _ (d h : ℕ) (circle : d * (h * 2) ≡ 6720) (some : 0 < h) (ω : ℕ) (
       order : (n : ℕ) → 2 * (2 ^ 20 * n) + 2 * (2 ^ 20 * n) ≡ 2 ^ 20 * (4 * n)
       order n = omega arith
 
-  prepared-disc : (k : ℕ) → k < h → Disc ((2 ^ 82 + 2 ^ 22) * ω) (N k)
+  prepared-disc : (k : ℕ) → k < h → Disc ((2 ^ 60 + 1) * (2897 * 2 ^ 10 * ω)) (N k)
   prepared-disc k l =
       dite (decLe 1 k)
       (λ (g : 1 ≤ k).
-      let A = conjG (valC (c k)) in
-      let B = conjG (valC (c (h - k))) in
-      let dA = conj-disc _ (valC (c k)) (sized k (le-of-lt l) .disc) in
-      let dB = conj-disc _ (valC (c (h - k))) (sized (h - k) (omega arith) .disc) in
-      subst (Disc ((2 ^ 82 + 2 ^ 22) * ω)) (sym (inner-is k g l))
-      (disc-more _ _ _ (inner ω) (disc-plus _ _ (scaleG (2 ^ 60) (plusG A (conjG B))) (timesG (quarter (minusG A (conjG B))) (house (d * k)))
-      (disc-scale (2 ^ 60) _ (plusG A (conjG B)) (disc-plus _ _ A (conjG B) dA (conj-disc _ B dB)))
-      (disc-times _ _ (quarter (minusG A (conjG B))) (house (d * k)) (quarter-disc _ (minusG A (conjG B)) (disc-plus _ _ A (negG (conjG B)) dA (neg-both-disc _ (conjG B) (conj-disc _ B dB)))) (turns .norm (d * k))))))
+      subst (Disc ((2 ^ 60 + 1) * (2897 * 2 ^ 10 * ω))) (sym (inner-is k g l))
+      (formed-disc (2 ^ 60) (2 ^ 20 * ω) ((2 ^ 60 + 1) * (2897 * 2 ^ 10 * ω)) (conjG (valC (c k))) (conjG (valC (c (h - k)))) (house (d * k)) (inner (2 ^ 60 + 1) ω)
+      (conj-disc _ (valC (c k)) (sized k (le-of-lt l) .disc)) (conj-disc _ (valC (c (h - k))) (sized (h - k) (omega arith) .disc)) (turns .norm (d * k))))
       (λ (g : 1 ≤ k → ⊥).
       let e : k ≡ 0 = omega (arith, g) in
-      let f = first-disc (2 ^ 20 * ω) (valC (c 0)) (valC (c h)) (sized 0 (le-of-lt some) .disc) (sized h (le-of-eq refl) .disc) in
-      subst (Disc ((2 ^ 82 + 2 ^ 22) * ω)) (sym (ap N e ∙ zero-is))
-      (disc-more _ _ _ (outer ω) (disc-same _ _ _ (first-form (2 ^ 60) (valC (c 0)) (valC (c h)) .0) (first-form (2 ^ 60) (valC (c 0)) (valC (c h)) .1)
+      let f = first-disc (2 ^ 20 * ω) (2897 * 2 ^ 10 * ω) (valC (c 0)) (valC (c h)) (outer ω) (sized 0 (le-of-lt some) .disc) (sized h (le-of-eq refl) .disc) in
+      subst (Disc ((2 ^ 60 + 1) * (2897 * 2 ^ 10 * ω))) (sym (ap N e ∙ zero-is))
+      (disc-more _ _ _ (more (2 ^ 60) (2897 * 2 ^ 10 * ω)) (disc-same _ _ _ (first-form (2 ^ 60) (valC (c 0)) (valC (c h)) .0) (first-form (2 ^ 60) (valC (c 0)) (valC (c h)) .1)
       (disc-scale (2 ^ 60) _ (conjG (firstG (valC (c 0)) (valC (c h)))) (conj-disc _ (firstG (valC (c 0)) (valC (c h))) f)))))
     where
-      inner : (n : ℕ) → 2 ^ 60 * (2 ^ 20 * n + 2 ^ 20 * n) + (2 ^ 20 * n + 2 ^ 20 * n) * (2 ^ 60 + 1) ≤ (2 ^ 82 + 2 ^ 22) * n
-      inner n = omega arith
-
-      outer : (n : ℕ) → 2 ^ 60 * (4 * (2 ^ 20 * n)) ≤ (2 ^ 82 + 2 ^ 22) * n
+      outer : (n : ℕ) → 8 * (2 ^ 20 * n * (2 ^ 20 * n)) ≤ 2897 * 2 ^ 10 * n * (2897 * 2 ^ 10 * n)
       outer n = omega arith
 
-  pub cell-disc : (v : ℕ) → ω ≡ 1024 * v → (k : ℕ) → k < h → Disc (2 ^ 20 * (4097 * v)) (conjG (valC (endCell ifftSteps h c t k)))
+      inner : (G n : ℕ) → 8 * (G * G * (2 ^ 20 * n * (2 ^ 20 * n))) ≤ G * (2897 * 2 ^ 10 * n) * (G * (2897 * 2 ^ 10 * n))
+      inner G n = le-trans (le-of-eq (order G (2 ^ 20 * n * (2 ^ 20 * n)))) (le-trans (mul-le-mul-left (G * G) (outer n)) (le-of-eq (again G (2897 * 2 ^ 10 * n))))
+        where
+          order : (G x : ℕ) → 8 * (G * G * x) ≡ G * G * (8 * x)
+          order G x = omega arith
+
+          again : (G x : ℕ) → G * G * (x * x) ≡ G * x * (G * x)
+          again G x = omega arith
+
+      more : (G x : ℕ) → G * x ≤ (G + 1) * x
+      more G x = omega arith
+
+  pub cell-disc : (v : ℕ) → ω ≡ 1024 * v → (k : ℕ) → k < h → Disc (2 ^ 20 * (2898 * v)) (conjG (valC (endCell ifftSteps h c t k)))
   cell-disc v e k l =
-      disc-unscale (2 ^ 60) (2 ^ 20 * (4097 * v)) (conjG (valC (endCell ifftSteps h c t k))) (pow-pos 60)
+      disc-unscale (2 ^ 60) (2 ^ 20 * (2898 * v)) (conjG (valC (endCell ifftSteps h c t k))) (pow-pos 60)
       (disc-more _ _ _ (room ω v e) (disc-near _ _ (scaleG (2 ^ 60) (conjG (valC (endCell ifftSteps h c t k)))) (N k) (ready k (le-of-lt l) l .2) (prepared-disc k l)))
     where
-      room : (n v : ℕ) → n ≡ 1024 * v → (2 ^ 60 + 2 ^ 50) * n + (2 ^ 82 + 2 ^ 22) * n ≤ 2 ^ 60 * (2 ^ 20 * (4097 * v))
+      room : (n v : ℕ) → n ≡ 1024 * v → (2 ^ 60 + 2 ^ 50) * n + (2 ^ 60 + 1) * (2897 * 2 ^ 10 * n) ≤ 2 ^ 60 * (2 ^ 20 * (2898 * v))
       room n v e = omega arith

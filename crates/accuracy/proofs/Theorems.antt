@@ -41,7 +41,7 @@ use Rattle.accuracy.specs.House.{house}
 use Rattle.accuracy.specs.Spectrum.{sample, exactBin, F32s, Sized, SixteenBit, factor, distance, sumZ, exactSample, inverseDistance, tone, Correlates, IsUnits}
 use Rattle.accuracy.specs.Value.{Signed, NearZ, timesZ, scale, absZ, val, Held}
 use Rattle.accuracy.proofs.Bands.{seen-in, quiet-in}
-use Rattle.accuracy.proofs.Calls.{word-held, mag-small, bits-f32s, pair-disc, constant, weight-least, weight-most, error-stages, scaled, total-error, tenth, tenth-least, tenth-most, inverse-total, at-least, at-most, sixteen-sized}
+use Rattle.accuracy.proofs.Calls.{word-held, mag-small, bits-f32s, pair-disc, constant, weight-least, weight-most, error-stages, scaled, root-of-two, tenth, tenth-least, tenth-most, inverse-total, at-least, at-most, sixteen-sized}
 use Rattle.accuracy.proofs.Complexes.{mag-abs, part-re, part-im, abs-near, near-more}
 use Rattle.accuracy.proofs.Dft.{paired}
 use Rattle.accuracy.proofs.Forward.{samples-long, bins-long, bin-near}
@@ -83,15 +83,15 @@ passes-6720 : isPlanned plan-6720 ≡ true
 unfolding isPlanned inOrder sized tally countOf sorted padded eqList product
 passes-6720 = refl
 
-error-960 : 2 * error (inUse plan-960) (length (inUse plan-960)) + 13 * 2 ^ 56 + 2 ^ 50 ≤ 2 * 55 * 2 ^ 56
+error-960 : 2829 * error (inUse plan-960) (length (inUse plan-960)) ≤ 2000 * (68 * 2 ^ 56 + 2 ^ 54)
 unfolding error inUse
 error-960 = lit≤ tt
 
-error-1680 : 2 * error (inUse plan-1680) (length (inUse plan-1680)) + 13 * 2 ^ 56 + 2 ^ 50 ≤ 2 * 58 * 2 ^ 56
+error-1680 : 2829 * error (inUse plan-1680) (length (inUse plan-1680)) ≤ 2000 * (72 * 2 ^ 56 + 2 ^ 55)
 unfolding error inUse
 error-1680 = lit≤ tt
 
-error-6720 : 2 * error (inUse plan-6720) (length (inUse plan-6720)) + 13 * 2 ^ 56 + 2 ^ 50 ≤ 2 * 69 * 2 ^ 56
+error-6720 : 2829 * error (inUse plan-6720) (length (inUse plan-6720)) ≤ 2000 * (88 * 2 ^ 56)
 unfolding error inUse
 error-6720 = lit≤ tt
 
@@ -133,31 +133,39 @@ module _ (p : Record) (W : ℕ) (lent : Slices) (v : Verdict) (tw : Slices) (fil
   abbrev E : ℕ
   E = error (inUse p) (length (inUse p))
 
-  stages : 2 * E + 13 * 2 ^ 56 + 2 ^ 50 ≤ 2 * (15 * p .count + 7) * 2 ^ 56
-  stages = total-error E (p .count) (plan-order p planned .few) (run-error p planned)
+  -- what the ends make of it
+  abbrev F : ℕ
+  F = p .count * (21 * 2 ^ 56 + 2 ^ 55)
 
-  -- ---- samples of a size, by any bound c on the error of a run
+  stages : 2829 * E ≤ 2000 * F
+  stages = grown E (p .count) (run-error p planned)
+    where
+      grown : (E j : ℕ) → E ≤ j * (15 * 2 ^ 56 + 2 ^ 51) → 2829 * E ≤ 2000 * (j * (21 * 2 ^ 56 + 2 ^ 55))
+      grown E j l = omega arith
+
+  enough : (j : ℕ) → 3 * (j * (21 * 2 ^ 56 + 2 ^ 55) + 13 * 2 ^ 56 + 2 ^ 50) ≤ 2 * factor j * 2 ^ 56
+  enough j = omega arith
+
+  -- ---- samples of a size, by any bound F on the error at the ends
 
   module _ (b : ℕ) (few : b ≤ 164) (small : Sized b xs) where
     sizes : (u : ℕ) → u < p .half → Disc (2 ^ 20 * (3 * 2 ^ (20 + b))) (paired (sample xs) u)
     sizes u l = pair-disc b (getD xs (u * 2 + 0) nan) (getD xs (u * 2 + 1) nan) (small (u * 2 + 0) (omega (arith, long))) (small (u * 2 + 1) (omega (arith, long)))
 
-    near-by : (c : ℕ) → 2 * E + 13 * 2 ^ 56 + 2 ^ 50 ≤ 2 * c * 2 ^ 56 → (k : ℕ) → k ≤ p .half
-        → Held binary32 (cell (after .0) k .re) × Held binary32 (cell (after .0) k .im) × Off (3 * c * (p .half * 2 ^ (77 + b))) (scaleG (2 ^ 60) (valC (cell (after .0) k))) (exactBin (p .half) xs k)
-    near-by c l k lk =
-        let o = bin-near p W lent v tw fills filled xs before r₀ after call e held (λ u. 3 * 2 ^ (20 + b)) sizes (λ u m. weight-least b) (weight-most (p .half) b (plan-half p planned .1) few) k lk in
-        (o .0, o .1, off-more _ _ _ _ (le-trans (mul-le-mul l (le-of-eq (constant (p .half) (3 * 2 ^ (20 + b))))) (le-of-eq (scaled c (p .half) b))) (o .2))
+    near-by : (F C : ℕ) → 2829 * E ≤ 2000 * F → 3 * (F + 13 * 2 ^ 56 + 2 ^ 50) ≤ 2 * C * 2 ^ 56 → (k : ℕ) → k ≤ p .half
+        → Held binary32 (cell (after .0) k .re) × Held binary32 (cell (after .0) k .im) × Off (C * (p .half * 2 ^ (77 + b))) (scaleG (2 ^ 60) (valC (cell (after .0) k))) (exactBin (p .half) xs k)
+    near-by F C root room k lk =
+        let o = bin-near p W lent v tw fills filled xs before r₀ after call e held (λ u. 3 * 2 ^ (20 + b)) sizes (λ u m. weight-least b) (weight-most (p .half) b (plan-half p planned .1) few)
+        F (root-of-two (2 ^ 60) E F (lit≤ tt) root) k lk in
+        (o .0, o .1, off-more _ _ _ _ (le-trans (le-of-eq (ap (λ (n : ℕ). (F + 13 * 2 ^ 56 + 2 ^ 50) * n) (constant (p .half) (3 * 2 ^ (20 + b))))) (scaled (F + 13 * 2 ^ 56 + 2 ^ 50) C (p .half) b room)) (o .2))
 
     -- every number of a bin is a whole number of units
     pub forward-held : (k : ℕ) → k ≤ p .half → Held binary32 (cell (after .0) k .re) × Held binary32 (cell (after .0) k .im)
-    forward-held k lk = let o = near-by (15 * p .count + 7) stages k lk in (o .0, o .1)
+    forward-held k lk = let o = near-by F (factor (p .count)) stages (enough (p .count)) k lk in (o .0, o .1)
 
-    -- Bin k is within (45 stages + 21) h B / 2 ^ 24 of the exact sum, in the plane, where the samples are at most B = 2 ^ (b - 108).
+    -- Bin k is within (33 stages + 20) h B / 2 ^ 24 of the exact sum, in the plane, where the samples are at most B = 2 ^ (b - 108).
     pub forward-accurate : (k : ℕ) → k ≤ p .half → Off (distance (p .count) (p .half) b) (scaleG (2 ^ 60) (valC (cell (after .0) k))) (exactBin (p .half) xs k)
-    forward-accurate k lk = off-more _ _ _ _ (mul-le-mul-right (p .half * 2 ^ (77 + b)) (three (p .count))) (near-by (15 * p .count + 7) stages k lk .2)
-      where
-        three : (j : ℕ) → 3 * (15 * j + 7) ≤ factor j
-        three j = omega arith
+    forward-accurate k lk = near-by F (factor (p .count)) stages (enough (p .count)) k lk .2
 
     -- so each part of it is
     pub forward-parts : (k : ℕ) → k ≤ p .half → NearZ (distance (p .count) (p .half) b) (scale (2 ^ 60) (val binary32 (cell (after .0) k .re))) (exactBin (p .half) xs k .re)
@@ -170,25 +178,26 @@ module _ (p : Record) (W : ℕ) (lent : Slices) (v : Verdict) (tw : Slices) (fil
 
     -- ---- plain numbers, for one length each
 
-    module _ (q : Record) (passes : isPlanned q ≡ true) (length-is : p .n ≡ q .n) (c : ℕ) (enough : 2 * error (inUse q) (length (inUse q)) + 13 * 2 ^ 56 + 2 ^ 50 ≤ 2 * c * 2 ^ 56) where
-      near-at : (k : ℕ) → k ≤ q .half → Off (3 * c * (q .half * 2 ^ (77 + b))) (scaleG (2 ^ 60) (valC (cell (after .0) k))) (exactBin (q .half) xs k)
+    module _ (q : Record) (passes : isPlanned q ≡ true) (length-is : p .n ≡ q .n) (F C : ℕ)
+        (root : 2829 * error (inUse q) (length (inUse q)) ≤ 2000 * F) (room : 3 * (F + 13 * 2 ^ 56 + 2 ^ 50) ≤ 2 * C * 2 ^ 56) where
+      near-at : (k : ℕ) → k ≤ q .half → Off (C * (q .half * 2 ^ (77 + b))) (scaleG (2 ^ 60) (valC (cell (after .0) k))) (exactBin (q .half) xs k)
       near-at k lk =
           let same : p ≡ q = same-plan p q planned passes length-is in
           let l : k ≤ p .half = subst (λ (z : Record). k ≤ z .half) (sym same) lk in
-          let o = near-by c (subst (λ (z : Record). 2 * error (inUse z) (length (inUse z)) + 13 * 2 ^ 56 + 2 ^ 50 ≤ 2 * c * 2 ^ 56) (sym same) enough) k l .2 in
-          subst (λ (z : Record). Off (3 * c * (z .half * 2 ^ (77 + b))) (scaleG (2 ^ 60) (valC (cell (after .0) k))) (exactBin (z .half) xs k)) same o
+          let o = near-by F C (subst (λ (z : Record). 2829 * error (inUse z) (length (inUse z)) ≤ 2000 * F) (sym same) root) room k l .2 in
+          subst (λ (z : Record). Off (C * (z .half * 2 ^ (77 + b))) (scaleG (2 ^ 60) (valC (cell (after .0) k))) (exactBin (z .half) xs k)) same o
 
-    -- 960 samples: 165 * 480 / 2 ^ 24 of B, below 0.0048 B
-    pub accurate-960 : p .n ≡ 960 → (k : ℕ) → k ≤ 480 → Off (165 * (480 * 2 ^ (77 + b))) (scaleG (2 ^ 60) (valC (cell (after .0) k))) (exactBin 480 xs k)
-    accurate-960 e = near-at plan-960 passes-960 e 55 error-960
+    -- 960 samples: 122 * 480 / 2 ^ 24 of B, below 0.0035 B
+    pub accurate-960 : p .n ≡ 960 → (k : ℕ) → k ≤ 480 → Off (122 * (480 * 2 ^ (77 + b))) (scaleG (2 ^ 60) (valC (cell (after .0) k))) (exactBin 480 xs k)
+    accurate-960 e = near-at plan-960 passes-960 e (68 * 2 ^ 56 + 2 ^ 54) 122 error-960 (lit≤ tt)
 
-    -- 1,680 samples: 174 * 840 / 2 ^ 24 of B, below 0.0088 B
-    pub accurate-1680 : p .n ≡ 1680 → (k : ℕ) → k ≤ 840 → Off (174 * (840 * 2 ^ (77 + b))) (scaleG (2 ^ 60) (valC (cell (after .0) k))) (exactBin 840 xs k)
-    accurate-1680 e = near-at plan-1680 passes-1680 e 58 error-1680
+    -- 1,680 samples: 129 * 840 / 2 ^ 24 of B, below 0.0065 B
+    pub accurate-1680 : p .n ≡ 1680 → (k : ℕ) → k ≤ 840 → Off (129 * (840 * 2 ^ (77 + b))) (scaleG (2 ^ 60) (valC (cell (after .0) k))) (exactBin 840 xs k)
+    accurate-1680 e = near-at plan-1680 passes-1680 e (72 * 2 ^ 56 + 2 ^ 55) 129 error-1680 (lit≤ tt)
 
-    -- 6,720 samples: 207 * 3,360 / 2 ^ 24 of B, below 0.042 B
-    pub accurate-6720 : p .n ≡ 6720 → (k : ℕ) → k ≤ 3360 → Off (207 * (3360 * 2 ^ (77 + b))) (scaleG (2 ^ 60) (valC (cell (after .0) k))) (exactBin 3360 xs k)
-    accurate-6720 e = near-at plan-6720 passes-6720 e 69 error-6720
+    -- 6,720 samples: 152 * 3,360 / 2 ^ 24 of B, below 0.031 B
+    pub accurate-6720 : p .n ≡ 6720 → (k : ℕ) → k ≤ 3360 → Off (152 * (3360 * 2 ^ (77 + b))) (scaleG (2 ^ 60) (valC (cell (after .0) k))) (exactBin 3360 xs k)
+    accurate-6720 e = near-at plan-6720 passes-6720 e (88 * 2 ^ 56) 152 error-6720 (lit≤ tt)
 
   -- ---- the sizes that acceptance speaks of
 
@@ -205,10 +214,10 @@ module _ (p : Record) (W : ℕ) (lent : Slices) (v : Verdict) (tw : Slices) (fil
   abs-most : (i : ℕ) → i < p .half * 2 → absZ (sample xs i) ≤ 2 * 2 ^ 180
   abs-most i l = le-trans (le-of-eq (sym (mag-abs binary32 (getD xs i nan)))) (sized-accepted i (omega (arith, long)))
 
-  room : (45 * p .count + 21) * (p .half * 2 ^ (77 + 140)) + p .half * 2 * (2 * 2 ^ 180 * (2 ^ 60 + 1)) ≤ 2 ^ 60 * (2 ^ 48 * 2 ^ 149)
+  room : factor (p .count) * (p .half * 2 ^ (77 + 140)) + p .half * 2 * (2 * 2 ^ 180 * (2 ^ 60 + 1)) ≤ 2 ^ 60 * (2 ^ 48 * 2 ^ 149)
   room = le-trans (add-le-add (mul-le-mul (stage-count (p .count) (plan-order p planned .few)) (mul-le-mul-right (2 ^ (77 + 140)) (plan-half p planned .1))) (mul-le-mul-right (2 * 2 ^ 180 * (2 ^ 60 + 1)) (mul-le-mul-right 2 (plan-half p planned .1)))) (lit≤ tt)
     where
-      stage-count : (j : ℕ) → j ≤ 13 → 45 * j + 21 ≤ 606
+      stage-count : (j : ℕ) → j ≤ 13 → factor j ≤ 449
       stage-count j l = omega arith
 
   -- No number of it is above 2 ^ 48: whatever bins of it are asked for, in order and at hand, power does not refuse.
@@ -255,7 +264,7 @@ module _ (p : Record) (W : ℕ) (lent : Slices) (v : Verdict) (tw : Slices) (fil
     hive-plan : p ≡ plan-1680
     hive-plan = same-plan p plan-1680 planned passes-1680 size
 
-    hive-distance : distance (p .count) (p .half) 108 ≡ 168840 * 2 ^ 185
+    hive-distance : distance (p .count) (p .half) 108 ≡ 127680 * 2 ^ 185
     hive-distance = ap (λ (q : Record). distance (q .count) (q .half) 108) hive-plan
 
     hive-inside : hi ≤ p .half
@@ -266,21 +275,21 @@ module _ (p : Record) (W : ℕ) (lent : Slices) (v : Verdict) (tw : Slices) (fil
     pub hive-heard : (k : ℕ) → lo ≤ k → k ≤ hi → (r : Gauss) (A : ℕ) → 0 < A → Correlates 840 xs k r A (A * (840 * 2 ^ 199))
         → (S : ℕ) × IsUnits S (s .power) × (65 * 2 ^ 149 ≤ 100 * S)
     hive-heard k lk kh r A pos c =
-        let M = 13593720 * 2 ^ 185 in
+        let M = 13634880 * 2 ^ 185 in
         let same : 840 * 2 ^ 199 ≡ M + distance (p .count) (p .half) 108 = rw hive-distance refl in
         let c' : Correlates (p .half) xs k r A (A * (M + distance (p .count) (p .half) 108)) =
         subst (λ (n : ℕ). Correlates (p .half) xs k r A (A * n)) same (subst (λ (q : Record). Correlates (q .half) xs k r A (A * (840 * 2 ^ 199))) (sym hive-plan) c) in
         let o = line-heard 108 (lit≤ tt) (sixteen-sized xs sixteen) lo hi s sum hive-inside k lk kh r A M pos c' in
         (o .0, o .1, at-least (65 * 2 ^ 149) (1024 * (2 ^ 60 * 2 ^ 60 * 2 ^ 149)) (1023 * (M * M)) (o .0) (lit< tt) (o .2) (lit≤ tt))
 
-    -- Where every exact bin of the band is at most 1 / 64, each adds at most 1 / 1,500 to the power.
+    -- Where every exact bin of the band is at most 1 / 64, each adds at most 1 / 1,800 to the power.
     pub hive-quiet : lo ≤ hi → ((k : ℕ) → lo ≤ k → k ≤ hi → Disc (2 ^ 203) (exactBin 840 xs k))
-        → (S : ℕ) × IsUnits S (s .power) × (1500 * S ≤ (hi + 1 - lo) * 2 ^ 149)
+        → (S : ℕ) × IsUnits S (s .power) × (1800 * S ≤ (hi + 1 - lo) * 2 ^ 149)
     hive-quiet order each =
         let o = quiet-stays-quiet 108 (lit≤ tt) (sixteen-sized xs sixteen) lo hi s sum hive-inside order (2 ^ 203)
         (subst (λ (q : Record). (k : ℕ) → lo ≤ k → k ≤ hi → Disc (2 ^ 203) (exactBin (q .half) xs k)) (sym hive-plan) each) in
         let Y = 2 ^ 60 * 2 ^ 60 * 2 ^ 149 in
-        let D = 168840 * 2 ^ 185 in (
+        let D = 127680 * 2 ^ 185 in (
           o .0,
           o .1,
           at-most (2 ^ 149) Y ((D + 2 ^ 203) * (D + 2 ^ 203) + 2 * Y) (hi + 1 - lo) (o .0) (lit< tt)
@@ -319,7 +328,7 @@ module _ (p : Record) (W : ℕ) (lent : Slices) (v : Verdict) (tw : Slices) (fil
               (pair-disc b (getD xs (2 * k) nan) (getD xs (2 * k + 1) nan) (small (2 * k) (omega (arith, bin-words))) (small (2 * k + 1) (omega (arith, bin-words))));
         }
 
-    -- Sample j is within (91 stages + 25) h B / 2 ^ 24 of the exact sum over the bins, where the bins' numbers are at most B = 2 ^ (b - 108).
+    -- Sample j is within (64 stages + 25) h B / 2 ^ 24 of the exact sum over the bins, where the bins' numbers are at most B = 2 ^ (b - 108).
     pub inverse-accurate : (j : ℕ) → j < 2 * p .half → Held binary32 (getD (after .0) j nan)
         × NearZ (inverseDistance (p .count) (p .half) b) (scale (2 ^ 60) (val binary32 (getD (after .0) j nan))) (exactSample (p .half) xs j)
     inverse-accurate j l =

@@ -43,9 +43,9 @@ SixteenBit xs = (i : ℕ) → i < length xs → (s : Signed) × (absZ s ≤ 3276
 
 -- how many times h B / 2 ^ 24 a bin is off at most
 abbrev pub factor : (stages : ℕ) → ℕ
-factor stages = 45 * stages + 21
+factor stages = 33 * stages + 20
 
--- (45 stages + 21) h B / 2 ^ 24 for such samples, in parts of 2 ^ -209, which exact bins are counted in
+-- (33 stages + 20) h B / 2 ^ 24 for such samples, in parts of 2 ^ -209, which exact bins are counted in
 abbrev pub distance : (stages h b : ℕ) → ℕ
 distance stages h b = factor stages * (h * 2 ^ (77 + b))
 
@@ -76,9 +76,9 @@ synthesis W p h b j = sumZ h (λ k. plusZ (along (b k) (W (p * (j * k)))) (along
 abbrev pub exactSample : (h : ℕ) → List Float → ℕ → Signed
 exactSample h xs j = synthesis house (6720 / (2 * h)) h (binTaken h (cell xs)) j
 
--- (91 stages + 25) h B / 2 ^ 24 for numbers of such bins, in the same parts
+-- (64 stages + 25) h B / 2 ^ 24 for numbers of such bins, in the same parts
 abbrev pub inverseDistance : (stages h b : ℕ) → ℕ
-inverseDistance stages h b = (91 * stages + 25) * (h * 2 ^ (77 + b))
+inverseDistance stages h b = (64 * stages + 25) * (h * 2 ^ (77 + b))
 
 -- ---- lines
 

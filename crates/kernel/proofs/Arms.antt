@@ -16,7 +16,7 @@ use Rattle.floats.specs.declared.complex.Complex.{Complex}
 use Rattle.floats.specs.Complexes.{blank, cell}
 use Rattle.kernel.specs.Parts.{kernelOf, readOf, outputOf, Sized, Fetched, Fetched4, Wrote, Saved}
 use Rattle.kernel.proofs.Writes.{wrote-as, saved-as}
-use Rattle.kernel.proofs.Kernel.{outputs-of}
+use Rattle.kernel.proofs.Kernel.{output-of, outputs-of}
 
 -- a radix that is none of the others
 pub eight : {r : ℕ} → isRadix r ≡ true → (r ≡ 2 → ⊥) → (r ≡ 3 → ⊥) → (r ≡ 4 → ⊥) → (r ≡ 5 → ⊥) → (r ≡ 7 → ⊥) → r ≡ 8
@@ -60,6 +60,8 @@ module _ (f : Bool) (M r : ℕ) (src : List Float) (lent : ℕ → ℕ → Compl
   pub first-arm : (ys ys′ ys″ : List Float) → Wrote (λ p. getD o p blank) (k * ρ) ρ ys ys′ → ys″ ≡ ys′ → Wrote (outputOf f M r src lent k) (k * r) r ys ys″
   first-arm ys ys′ ys″ w same = rw (same, e) (wrote-as _ _ _ (outputOf f M ρ src lent k) (outputs-of f M src lent k ρ c o some few reads outs) w)
 
-  pub later-arm : (j : ℕ) (re im re′ im′ re″ im″ : List Float) → Saved (λ p. getD o p blank) j ρ re im re′ im′ → re″ ≡ re′ → im″ ≡ im′
-      → Saved (outputOf f M r src lent k) j r re im re″ im″
-  later-arm j re im re′ im′ re″ im″ w same-re same-im = rw (same-re, same-im, e) (saved-as _ _ _ _ (outputOf f M ρ src lent k) (outputs-of f M src lent k ρ c o some few reads outs) w)
+pub later-arm : (f : Bool) (M r : ℕ) (src : List Float) (lent : ℕ → ℕ → Complex) (k ρ : ℕ) (c : List Complex) → r ≡ ρ → 0 < ρ
+    → ((q : ℕ) → q < ρ → getD c q blank ≡ readOf f M src lent k q) → (j : ℕ) (re im re′ im′ re″ im″ : List Float)
+    → Saved (kernelOf ρ (λ q. getD c q blank)) j ρ re im re′ im′ → re″ ≡ re′ → im″ ≡ im′ → Saved (outputOf f M r src lent k) j r re im re″ im″
+later-arm f M r src lent k ρ c e some reads j re im re′ im′ re″ im″ w same-re same-im =
+    rw (same-re, same-im, e) (saved-as _ _ _ _ (outputOf f M ρ src lent k) (λ p l. output-of f M src lent k ρ c some reads p) w)

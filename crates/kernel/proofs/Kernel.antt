@@ -74,12 +74,15 @@ module _ (first : Bool) (M : ℕ) (src : List Float) (lent : ℕ → ℕ → Com
   read-times (suc q) x t y l e ex et ey = rw e (ey ∙ ap₂ times ex et)
 
   -- the outputs of the cells read
+  pub output-of : (r : ℕ) (c : List Complex) → 0 < r → ((q : ℕ) → q < r → getD c q blank ≡ readOf first M src lent i q)
+      → (p : ℕ) → kernelOf r (λ q. getD c q blank) p ≡ outputOf first M r src lent i p
+  unfolding plain
+  output-of r c some reads p = total-same _ _ r _ _ p (r - 1) (λ q lq. reads q (omega arith))
+
   pub outputs-of : (r : ℕ) (c o : List Complex) → 0 < r → r ≤ 8 → ((q : ℕ) → q < r → getD c q blank ≡ readOf first M src lent i q)
       → o ≡ tabulate 8 0 (kernelOf r (λ q. getD c q blank)) → (p : ℕ) → p < r → getD o p blank ≡ outputOf first M r src lent i p
-  unfolding plain
   outputs-of r c o some few reads outs p l =
-      ap (λ (os : List Complex). getD os p blank) outs ∙ getD-tabulate 8 0 _ p blank (omega arith)
-      ∙ rw zero-add (total-same _ _ r _ _ p (r - 1) (λ q lq. reads q (omega arith)))
+      ap (λ (os : List Complex). getD os p blank) outs ∙ getD-tabulate 8 0 _ p blank (omega arith) ∙ rw zero-add (output-of r c some reads p)
 
 -- all later stages do alike, and an output rests on the cells that are there
 module _ (lent : ℕ → ℕ → Complex) (j h s r : ℕ) (src : List Float) (d : ℕ → Complex) (e : (n : ℕ) → n < h → cell src n ≡ d n) (i : ℕ) (li : i < h / r) where

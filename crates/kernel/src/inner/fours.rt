@@ -1,7 +1,6 @@
 // Four iterations of a later stage at a time, in the lanes, whose twiddles stand as packed for width 4. The code is that of lanes.rt but for
 // where the twiddles stand: the compiler makes vectors only of a function that has one caller.
 use crate::inner::kernel::cells;
-use crate::inner::kernel::outputs;
 use crate::inner::lanes::Place;
 use crate::inner::lanes::batch;
 use crate::inner::lanes::onward;
@@ -34,48 +33,12 @@ pub fn lanes4(
     while j < len {
         let k = i + j;
         match r {
-            2 => save(
-                outputs(cells(src, tw, k, j, 1, 4, m, 2, false), 2),
-                ra,
-                ia,
-                j,
-                2,
-            ),
-            3 => save(
-                outputs(cells(src, tw, k, j, 1, 4, m, 3, false), 3),
-                ra,
-                ia,
-                j,
-                3,
-            ),
-            4 => save(
-                outputs(cells(src, tw, k, j, 1, 4, m, 4, false), 4),
-                ra,
-                ia,
-                j,
-                4,
-            ),
-            5 => save(
-                outputs(cells(src, tw, k, j, 1, 4, m, 5, false), 5),
-                ra,
-                ia,
-                j,
-                5,
-            ),
-            7 => save(
-                outputs(cells(src, tw, k, j, 1, 4, m, 7, false), 7),
-                rb,
-                ib,
-                j,
-                7,
-            ),
-            _ => save(
-                outputs(cells(src, tw, k, j, 1, 4, m, 8, false), 8),
-                rb,
-                ib,
-                j,
-                8,
-            ),
+            2 => save(cells(src, tw, k, j, 1, 4, m, 2, false), ra, ia, j, 2),
+            3 => save(cells(src, tw, k, j, 1, 4, m, 3, false), ra, ia, j, 3),
+            4 => save(cells(src, tw, k, j, 1, 4, m, 4, false), ra, ia, j, 4),
+            5 => save(cells(src, tw, k, j, 1, 4, m, 5, false), ra, ia, j, 5),
+            7 => save(cells(src, tw, k, j, 1, 4, m, 7, false), rb, ib, j, 7),
+            _ => save(cells(src, tw, k, j, 1, 4, m, 8, false), rb, ib, j, 8),
         }
         j += 1;
     }

@@ -12,7 +12,7 @@ ghost use Rattle.floats.specs.Complexes.{blank, cell};
 ghost use Rattle.kernel.specs.Parts.{kernelOf, readOf, Sized};
 
 // Output p: cell 0, then plus each cell turned.
-fn output(c: [Complex; 8], r: usize, p: usize) -> Complex
+pub fn output(c: [Complex; 8], r: usize, p: usize) -> Complex
     requires { ⌜ (isRadix r ≡ true) × (2 ≤ r) × (r ≤ 8) × (p < 8) ⌝ }
     ensures { λ z. ⌜ z ≡ kernelOf r (λ q. getD c q blank) p ⌝ }
 {

@@ -1,90 +1,65 @@
 // Sixteen iterations of a later stage at a time, in lanes: output p of lane j stands at 16 * p + j of two arrays of 128.
 use crate::inner::kernel::cells;
-use crate::inner::kernel::outputs;
+use crate::inner::kernel::output;
 use floats::complex::Complex;
 use floats::inner::cells::put;
 ghost use mathlib.Core.Path.{_≡_};
-ghost use mathlib.Core.Bool.{false};
+ghost use mathlib.Core.Bool.{true, false};
 ghost use Prim.Native.Nat.{ℕ, _+_, _-_, _*_, _/_, _%_, _^_, _<_, _≤_};
 ghost use lib.ListN.{length, getD};
+ghost use Rattle.plan.specs.Lists.{isRadix};
 ghost use Rattle.floats.specs.Complexes.{blank};
-ghost use Rattle.kernel.specs.Parts.{outputOf, Sized, Fetched, Wrote, Done, lane, Held, Saved, InBlock, Stored, Batch, Even, Evenly, Placed};
+ghost use Rattle.kernel.specs.Parts.{kernelOf, outputOf, Sized, Fetched, Wrote, Done, lane, Held, Saved, InBlock, Stored, Batch, Even, Evenly, Placed};
 
-// The first r outputs to lane j.
-pub fn save(o: [Complex; 8], re: &mut [f32], im: &mut [f32], j: usize, r: usize)
-    requires { ⌜ (r ≤ 8) × (j < 16) × (length (now re) ≡ 128) × (length (now im) ≡ 128) ⌝ }
-    ensures { λ _. ⌜ Saved (λ p. getD o p blank) j r (now (re .entry)) (now (im .entry)) (now (re .exit)) (now (im .exit)) ⌝ }
+// The r outputs of the cells c to lane j, each stored when it is made: the even ones, then the odd ones, which share most with each other.
+pub fn save(c: [Complex; 8], re: &mut [f32], im: &mut [f32], j: usize, r: usize)
+    requires { ⌜ (isRadix r ≡ true) × (2 ≤ r) × (r ≤ 8) × (j < 16) × (length (now re) ≡ 128) × (length (now im) ≡ 128) ⌝ }
+    ensures { λ _. ⌜ Saved (kernelOf r (λ q. getD c q blank)) j r (now (re .entry)) (now (im .entry)) (now (re .exit)) (now (im .exit)) ⌝ }
 {
     let mut p = 0;
     while p < r {
-        let z = o[p];
+        let z = output(c, r, p);
         let k = 16 * p + j;
         re[k] = z.re;
         im[k] = z.im;
-        p += 1;
+        p += 2;
+    }
+    let mut q = 1;
+    while q < r {
+        let z = output(c, r, q);
+        let k = 16 * q + j;
+        re[k] = z.re;
+        im[k] = z.im;
+        q += 2;
     }
 }
 
-// Iterations i to i + len, to the lanes, each radix written out.
+// Iterations i to i + len, to the lanes, each radix written out: those below 7 to one pair of arrays, the others to another.
 pub fn lanes(
     src: &[f32],
     tw: &[f32],
-    re: &mut [f32],
-    im: &mut [f32],
+    ra: &mut [f32],
+    ia: &mut [f32],
+    rb: &mut [f32],
+    ib: &mut [f32],
     i: usize,
     m: usize,
     len: usize,
     r: usize,
 )
-    requires { ⌜ Sized m r (length (now src)) × (i + len ≤ m) × (len ≤ 16) × (2 * (len * (r - 1)) ≤ length (now tw)) × (length (now re) ≡ 128) × (length (now im) ≡ 128) ⌝ }
-    ensures { λ _. ⌜ ((lent : ℕ → ℕ → Complex) → Fetched i len r lent (now (tw .entry)) → Held i len r (outputOf false m r (now (src .entry)) lent) (now (re .exit)) (now (im .exit))) ⌝ }
+    requires { ⌜ Sized m r (length (now src)) × (i + len ≤ m) × (len ≤ 16) × (2 * (len * (r - 1)) ≤ length (now tw)) × (length (now ra) ≡ 128) × (length (now ia) ≡ 128) × (length (now rb) ≡ 128) × (length (now ib) ≡ 128) ⌝ }
+    ensures { λ _. ⌜ ((lent : ℕ → ℕ → Complex) → Fetched i len r lent (now (tw .entry)) → (r < 7 → Held i len r (outputOf false m r (now (src .entry)) lent) (now (ra .exit)) (now (ia .exit))) × (7 ≤ r → Held i len r (outputOf false m r (now (src .entry)) lent) (now (rb .exit)) (now (ib .exit)))) ⌝ }
 {
     let mut j = 0;
     while j < len {
         let k = i + j;
         match r {
-            2 => save(
-                outputs(cells(src, tw, k, j, 1, 1, m, 2, false), 2),
-                re,
-                im,
-                j,
-                2,
-            ),
-            3 => save(
-                outputs(cells(src, tw, k, j, 2, 1, m, 3, false), 3),
-                re,
-                im,
-                j,
-                3,
-            ),
-            4 => save(
-                outputs(cells(src, tw, k, j, 3, 1, m, 4, false), 4),
-                re,
-                im,
-                j,
-                4,
-            ),
-            5 => save(
-                outputs(cells(src, tw, k, j, 4, 1, m, 5, false), 5),
-                re,
-                im,
-                j,
-                5,
-            ),
-            7 => save(
-                outputs(cells(src, tw, k, j, 6, 1, m, 7, false), 7),
-                re,
-                im,
-                j,
-                7,
-            ),
-            _ => save(
-                outputs(cells(src, tw, k, j, 7, 1, m, 8, false), 8),
-                re,
-                im,
-                j,
-                8,
-            ),
+            2 => save(cells(src, tw, k, j, 1, 1, m, 2, false), ra, ia, j, 2),
+            3 => save(cells(src, tw, k, j, 2, 1, m, 3, false), ra, ia, j, 3),
+            4 => save(cells(src, tw, k, j, 3, 1, m, 4, false), ra, ia, j, 4),
+            5 => save(cells(src, tw, k, j, 4, 1, m, 5, false), ra, ia, j, 5),
+            7 => save(cells(src, tw, k, j, 6, 1, m, 7, false), rb, ib, j, 7),
+            _ => save(cells(src, tw, k, j, 7, 1, m, 8, false), rb, ib, j, 8),
         }
         j += 1;
     }

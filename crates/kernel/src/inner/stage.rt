@@ -99,18 +99,29 @@ fn by_fours(
     at
 }
 
-// A later stage of radix r at stride s, of m iterations, its twiddles packed for width w.
-fn later_stage(src: &[f32], tw: &[f32], dst: &mut [f32], m: usize, s: usize, r: usize, w: usize)
-    requires { ⌜ Sized m r (length (now src)) × Lending m r (length (now tw)) 224 × (0 < w) × (w ≤ 4) × Blocks m s r (length (now dst)) ⌝ }
-    ensures { λ _. ⌜ Done s r (outputOf false m r (now (src .entry)) (lentAt m r w (now (tw .entry)))) (now (dst .exit)) m ⌝ }
+// Of a later stage the iterations from `end` on, sixteen at a time, of which the first goes to `start`; those in whole lanes of 4 are done.
+fn by_sixteens(
+    src: &[f32],
+    tw: &[f32],
+    dst: &mut [f32],
+    start: Place,
+    end: usize,
+    m: usize,
+    s: usize,
+    r: usize,
+    w: usize,
+    even: usize,
+)
+    requires { ⌜ Sized m r (length (now src)) × Lending m r (length (now tw)) 224 × (0 < w) × (w ≤ 4) × Blocks m s r (length (now dst)) × Batch even × Even even s × (end ≤ m) × (w ≡ 4 → m / 4 * 4 ≤ end) × Even even end × Placed even end s r (start .block) (start .col) ⌝ }
+    ensures { λ _. ⌜ (Done s r (outputOf false m r (now (src .entry)) (lentAt m r w (now (tw .entry)))) (now (dst .entry)) end → Done s r (outputOf false m r (now (src .entry)) (lentAt m r w (now (tw .entry)))) (now (dst .exit)) m) ⌝ }
 {
     let mut t = [0.0f32; 224];
-    let mut re = [0.0f32; 128];
-    let mut im = [0.0f32; 128];
-    let even = evenly(s);
+    let mut ra = [0.0f32; 128];
+    let mut ia = [0.0f32; 128];
+    let mut rb = [0.0f32; 128];
+    let mut ib = [0.0f32; 128];
     let here = stand(w);
-    let end = in_fours(m, w);
-    let mut at = by_fours(src, tw, dst, m, end, s, r, even);
+    let mut at = start;
     let mut i = end;
     while i < m {
         let len = least(m - i, 16);
@@ -119,15 +130,44 @@ fn later_stage(src: &[f32], tw: &[f32], dst: &mut [f32], m: usize, s: usize, r: 
         lanes(
             src,
             lent(tw, &t, here, from),
-            &mut re,
-            &mut im,
+            &mut ra,
+            &mut ia,
+            &mut rb,
+            &mut ib,
             i,
             m,
             len,
             r,
         );
-        at = store(&re, &im, dst, at, i, m, len, s, r, even);
+        at = store(
+            pick(&ra, &rb, r),
+            pick(&ia, &ib, r),
+            dst,
+            at,
+            i,
+            m,
+            len,
+            s,
+            r,
+            even,
+        );
         i += len;
+    }
+}
+
+// A later stage of radix r at stride s, of m iterations, its twiddles packed for width w. What has no iterations makes no lanes.
+fn later_stage(src: &[f32], tw: &[f32], dst: &mut [f32], m: usize, s: usize, r: usize, w: usize)
+    requires { ⌜ Sized m r (length (now src)) × Lending m r (length (now tw)) 224 × (0 < w) × (w ≤ 4) × Blocks m s r (length (now dst)) ⌝ }
+    ensures { λ _. ⌜ Done s r (outputOf false m r (now (src .entry)) (lentAt m r w (now (tw .entry)))) (now (dst .exit)) m ⌝ }
+{
+    let even = evenly(s);
+    let end = in_fours(m, w);
+    let mut at = Place { block: 0, col: 0 };
+    if end > 0 {
+        at = by_fours(src, tw, dst, m, end, s, r, even);
+    }
+    if end < m {
+        by_sixteens(src, tw, dst, at, end, m, s, r, w, even);
     }
 }
 

@@ -1,69 +1,116 @@
 -- `kernel::inner::lanes::save` meets its contract. Assumes nothing.
-use mathlib.Core.Path.{_≡_}
-use Prim.Native.Nat.{_-_, _≤_}
+use mathlib.Core.Path.{_≡_, refl, _∙_}
+use Prim.Native.Nat.{_+_, _-_, _%_, _≤_}
 use native.Mathlib.Omega.{arith}
 use borrow.Author.Needs.{needs}
 use lib.ListN.{getD}
 use Rattle.floats.specs.Complexes.{blank}
-use Rattle.kernel.specs.Parts.{Saved}
-use Rattle.kernel.proofs.Writes.{saved-none, saved-step, saved-all}
+use Rattle.kernel.specs.Parts.{kernelOf}
+use Rattle.kernel.proofs.Writes.{Every, every-none, every-step, every-end, saved-both}
 use Rattle.kernel.proofs.inner.lanes.save.Statement.{statement}
 use Rattle.kernel.proofs.inner.lanes.save.Tie as tie
 
 abbrev Inv-loop : tie.InvT-loop
-Inv-loop re₀ im₀ j r o p₀ re im p = (p ≤ r) × Saved (λ n. getD o n blank) j p re₀ im₀ re im
+Inv-loop c re₀ im₀ j r p₀ re im p = (p ≤ r + 1) × (p % 2 ≡ 0) × Every (kernelOf r (λ n. getD c n blank)) 0 j p re₀ im₀ re im
 
 abbrev μ-loop : tie.MeasureT-loop
-μ-loop re₀ im₀ j r o p₀ re im p = r - p
+μ-loop c re₀ im₀ j r p₀ re im p = r + 1 - p
 
-loop-holds : tie.Need-loop-holds Inv-loop μ-loop
-loop-holds c = (omega arith, saved-none _ _ _ _)
+abbrev Inv-loop2 : tie.InvT-loop2
+Inv-loop2 c re₀ im₀ j r p q₀ re im q = (q ≤ r + 1) × (q % 2 ≡ 1) × Every (kernelOf r (λ n. getD c n blank)) 1 j q re₀ im₀ re im
 
-mul-z : tie.Need-mul-z Inv-loop μ-loop
-mul-z c = search needs
+abbrev μ-loop2 : tie.MeasureT-loop2
+μ-loop2 c re₀ im₀ j r p q₀ re im q = r + 1 - q
 
-array-copy-out-z : tie.Need-array-copy-out-z Inv-loop μ-loop
-array-copy-out-z c = search needs
+loop-holds : tie.Need-loop-holds Inv-loop μ-loop Inv-loop2 μ-loop2
+loop-holds c = (omega arith, refl, every-none _ 0 _ _ _ (omega arith))
 
-mul-k : tie.Need-mul-k Inv-loop μ-loop
+output-requires : tie.Need-output-requires Inv-loop μ-loop Inv-loop2 μ-loop2
+output-requires c κs = search needs
+
+mul-k : tie.Need-mul-k Inv-loop μ-loop Inv-loop2 μ-loop2
 mul-k c = search needs
 
-add-k : tie.Need-add-k Inv-loop μ-loop
+add-k : tie.Need-add-k Inv-loop μ-loop Inv-loop2 μ-loop2
 add-k c = search needs
 
-mul-re : tie.Need-mul-re Inv-loop μ-loop
+mul-re : tie.Need-mul-re Inv-loop μ-loop Inv-loop2 μ-loop2
 mul-re c = search needs
 
-slice-write-re : tie.Need-slice-write-re Inv-loop μ-loop
+slice-write-re : tie.Need-slice-write-re Inv-loop μ-loop Inv-loop2 μ-loop2
 slice-write-re c = search needs
 
-mul-im : tie.Need-mul-im Inv-loop μ-loop
+mul-im : tie.Need-mul-im Inv-loop μ-loop Inv-loop2 μ-loop2
 mul-im c = search needs
 
-slice-write-im : tie.Need-slice-write-im Inv-loop μ-loop
+slice-write-im : tie.Need-slice-write-im Inv-loop μ-loop Inv-loop2 μ-loop2
 slice-write-im c = search needs
 
-add-p : tie.Need-add-p Inv-loop μ-loop
+add-p : tie.Need-add-p Inv-loop μ-loop Inv-loop2 μ-loop2
 add-p c = search needs
 
-loop-less : tie.Need-loop-less Inv-loop μ-loop
+loop-less : tie.Need-loop-less Inv-loop μ-loop Inv-loop2 μ-loop2
 loop-less c = search needs
 
-loop-again : tie.Need-loop-again Inv-loop μ-loop
+loop-again : tie.Need-loop-again Inv-loop μ-loop Inv-loop2 μ-loop2
 loop-again c =
-    let l = c .before .before .loop in
-    (omega arith, saved-step _ _ _ _ (l .p) (l .re) (l .im) (omega (arith, l .inv .1 .size-re)) (omega (arith, l .inv .1 .size-im)) (l .inv .1))
+    let l = c .before .before .loop in (
+      omega arith,
+      omega (arith, l .inv .1),
+      every-step _ 0 _ _ _ (l .p) (l .re) (l .im) _ (l .inv .1) (omega (arith, l .inv .2 .size-re)) (omega (arith, l .inv .2 .size-im)) (l .inv .2) (c .output .ensures),
+    )
 
-same-length : tie.Need-same-length Inv-loop μ-loop
-same-length c = search needs
+loop2-holds : tie.Need-loop2-holds Inv-loop μ-loop Inv-loop2 μ-loop2
+loop2-holds c = (omega arith, refl, every-none _ 1 _ _ _ (omega arith))
 
-same-length-2 : tie.Need-same-length-2 Inv-loop μ-loop
-same-length-2 c = search needs
+output-requires-2 : tie.Need-output-requires-2 Inv-loop μ-loop Inv-loop2 μ-loop2
+output-requires-2 c κs = search needs
 
-returns : tie.Need-returns Inv-loop μ-loop
+mul-k-2 : tie.Need-mul-k-2 Inv-loop μ-loop Inv-loop2 μ-loop2
+mul-k-2 c = search needs
+
+add-k-2 : tie.Need-add-k-2 Inv-loop μ-loop Inv-loop2 μ-loop2
+add-k-2 c = search needs
+
+mul-re-2 : tie.Need-mul-re-2 Inv-loop μ-loop Inv-loop2 μ-loop2
+mul-re-2 c = search needs
+
+slice-write-re-2 : tie.Need-slice-write-re-2 Inv-loop μ-loop Inv-loop2 μ-loop2
+slice-write-re-2 c = search needs
+
+mul-im-2 : tie.Need-mul-im-2 Inv-loop μ-loop Inv-loop2 μ-loop2
+mul-im-2 c = search needs
+
+slice-write-im-2 : tie.Need-slice-write-im-2 Inv-loop μ-loop Inv-loop2 μ-loop2
+slice-write-im-2 c = search needs
+
+add-q : tie.Need-add-q Inv-loop μ-loop Inv-loop2 μ-loop2
+add-q c = search needs
+
+loop2-less : tie.Need-loop2-less Inv-loop μ-loop Inv-loop2 μ-loop2
+loop2-less c = search needs
+
+loop2-again : tie.Need-loop2-again Inv-loop μ-loop Inv-loop2 μ-loop2
+loop2-again c =
+    let l = c .before .before .loop2 in (
+      omega arith,
+      omega (arith, l .inv .1),
+      every-step _ 1 _ _ _ (l .q) (l .re) (l .im) _ (l .inv .1) (omega (arith, l .inv .2 .size-re)) (omega (arith, l .inv .2 .size-im)) (l .inv .2) (c .output2 .ensures),
+    )
+
+same-length : tie.Need-same-length Inv-loop μ-loop Inv-loop2 μ-loop2
+same-length c = c .before .loop2 .inv .2 .size-re ∙ c .before .before .before .loop .inv .2 .size-re
+
+same-length-2 : tie.Need-same-length-2 Inv-loop μ-loop Inv-loop2 μ-loop2
+same-length-2 c = c .before .loop2 .inv .2 .size-im ∙ c .before .before .before .loop .inv .2 .size-im
+
+returns : tie.Need-returns Inv-loop μ-loop Inv-loop2 μ-loop2
 returns c =
-    let all : c .before .loop .p ≡ c .before .before .args .r = omega arith in
-    saved-all _ _ _ _ all (c .before .loop .inv .1)
+    let r = c .before .before .before .before .before .before .args .r in
+    let odd = c .before .loop2 in
+    let even = c .before .before .before .loop in
+    saved-both _ _ _ _ r (every-end _ 0 _ _ _ (even .p) r (even .inv .1) (omega (arith, c .before .before .loop-test .left)) (even .inv .0) (even .inv .2))
+    (every-end _ 1 _ _ _ (odd .q) r (odd .inv .1) (omega (arith, c .loop2-test .left)) (odd .inv .0) (odd .inv .2))
 
 pub save-spec : {M : Type 1} → statement M
 save-spec =
@@ -71,9 +118,10 @@ save-spec =
     (tie.spec
     Inv-loop
     μ-loop
+    Inv-loop2
+    μ-loop2
     loop-holds
-    mul-z
-    array-copy-out-z
+    output-requires
     mul-k
     add-k
     mul-re
@@ -83,6 +131,17 @@ save-spec =
     add-p
     loop-less
     loop-again
+    loop2-holds
+    output-requires-2
+    mul-k-2
+    add-k-2
+    mul-re-2
+    slice-write-re-2
+    mul-im-2
+    slice-write-im-2
+    add-q
+    loop2-less
+    loop2-again
     same-length
     same-length-2
     returns)

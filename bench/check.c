@@ -1,0 +1,75 @@
+/* check.c: K and rows of LIST WIDTH DIRECTION (0 forward, 1 inverse): makes everything ready for all rows and then does the calls of the
+ * first K, so that the instructions of row K are the difference of two runs. It brings the memcpy and memset that the library calls, since
+ * a C library picks its own by the processor. */
+#include "ladlespindle.h"
+#include <stdlib.h>
+#include <string.h>
+
+/* Sixteen bytes at a time, then the rest one by one: written out, so that every compiler makes the same of it. */
+void *memcpy(void *to, const void *from, size_t bytes)
+{
+    void *start = to;
+    __asm__ volatile("cmp $16, %2\n jb 2f\n"
+                     "1: movups (%1), %%xmm0\n movups %%xmm0, (%0)\n add $16, %0\n add $16, %1\n sub $16, %2\n cmp $16, %2\n jae 1b\n"
+                     "2: test %2, %2\n jz 4f\n"
+                     "3: movb (%1), %%al\n movb %%al, (%0)\n inc %0\n inc %1\n dec %2\n jnz 3b\n"
+                     "4:"
+                     : "+r"(to), "+r"(from), "+r"(bytes)
+                     :
+                     : "rax", "xmm0", "cc", "memory");
+    return start;
+}
+
+void *memset(void *to, int byte, size_t bytes)
+{
+    void *start = to;
+    unsigned long eight = (unsigned char)byte * 0x0101010101010101ul;
+    __asm__ volatile("movq %2, %%xmm0\n punpcklqdq %%xmm0, %%xmm0\n cmp $16, %1\n jb 2f\n"
+                     "1: movups %%xmm0, (%0)\n add $16, %0\n sub $16, %1\n cmp $16, %1\n jae 1b\n"
+                     "2: test %1, %1\n jz 4f\n"
+                     "3: movb %b2, (%0)\n inc %0\n dec %1\n jnz 3b\n"
+                     "4:"
+                     : "+r"(to), "+r"(bytes)
+                     : "q"(eight)
+                     : "xmm0", "cc", "memory");
+    return start;
+}
+
+/* a row made ready */
+typedef struct {
+    ladlespindle_record plan;
+    size_t width, stages, ends;
+    int inverse;
+} row;
+
+int main(int count, char **words)
+{
+    static float input[8194], output[8194], scratch[6 * 8192], stage[40000], end[4096];
+    static row rows[64];
+    size_t n = (size_t)(count - 2) / 3;
+    if (count < 2 || n > 64) return 2;
+    for (size_t k = 0; k < n; k++) {
+        uint8_t list[16];
+        size_t length = strlen(words[2 + 3 * k]);
+        if (length > sizeof list) return 2;
+        for (size_t i = 0; i < length; i++) list[i] = (uint8_t)(words[2 + 3 * k][i] - '0');
+        rows[k].plan = ladlespindle_plan(list, length);
+        rows[k].width = strtoul(words[3 + 3 * k], NULL, 10);
+        rows[k].inverse = words[4 + 3 * k][0] == '1';
+        rows[k].stages = 2 * ladlespindle_stage_twiddles(list, length);
+        rows[k].ends = 2 * ladlespindle_end_twiddles(list, length);
+    }
+    for (size_t i = 0; i < 8194; i++) input[i] = (float)(i * 77 % 101) - 50;
+    for (size_t i = 0; i < 40000; i++) stage[i] = (float)(i * 31 % 97) / 97 - 0.5f;
+    for (size_t i = 0; i < 4096; i++) end[i] = (float)(i * 29 % 89) / 89 - 0.5f;
+    size_t calls = strtoul(words[1], NULL, 10);
+    for (size_t k = 0; k < n && k < calls; k++) {
+        row r = rows[k];
+        size_t length = r.plan.n;
+        ladlespindle_answer answer =
+            r.inverse ? ladlespindle_inverse(r.plan, r.width, input, length + 2, output, length, scratch, 6 * length, stage, r.stages, end, r.ends)
+                      : ladlespindle_forward(r.plan, r.width, input, length, output, length + 2, scratch, 6 * length, stage, r.stages, end, r.ends);
+        if (answer.number != 0) return 1;
+    }
+    return 0;
+}

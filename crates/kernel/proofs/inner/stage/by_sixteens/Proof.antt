@@ -1,0 +1,204 @@
+-- `kernel::inner::stage::by_sixteens` meets its contract. Assumes nothing.
+use mathlib.Core.Path.{_≡_, refl, sym, _∙_}
+use mathlib.Core.Bool.{false}
+use Prim.Native.Nat.{_+_, _-_, _*_, _/_, _≤_, _<_}
+use native.Mathlib.Omega.{arith}
+use borrow.Author.Needs.{needs}
+use lib.ListN.{length}
+use Rattle.kernel.specs.Floats.{lentAt}
+use Rattle.kernel.specs.Parts.{outputOf, Done, Even, Placed}
+use Rattle.kernel.proofs.Places.{picked, picked-size}
+use Rattle.kernel.proofs.Widths.{small-past, past-room, lent-part}
+use Rattle.kernel.proofs.Batches.{even-add, even-batch}
+use Rattle.kernel.proofs.inner.stage.by_sixteens.Statement.{statement}
+use Rattle.kernel.proofs.inner.stage.by_sixteens.Tie as tie
+
+abbrev Inv-loop : tie.InvT-loop
+Inv-loop src tw dst₀ end m s r w even t₀ ra₀ ia₀ rb₀ ib₀ here at₀ i₀ dst t ra ia rb ib at i =
+    (i ≤ m) × (length dst ≡ length dst₀) × (length t ≡ 224) × (length ra ≡ 128) × (length ia ≡ 128) × (length rb ≡ 128) × (length ib ≡ 128)
+    × Even even i × Placed even i s r (at .block) (at .col) × (w ≡ 4 → m / 4 * 4 ≤ i)
+    × (Done s r (outputOf false m r src (lentAt m r w tw)) dst₀ end → Done s r (outputOf false m r src (lentAt m r w tw)) dst i)
+
+abbrev μ-loop : tie.MeasureT-loop
+μ-loop src tw dst₀ end m s r w even t₀ ra₀ ia₀ rb₀ ib₀ here at₀ i₀ dst t ra ia rb ib at i = m - i
+
+stand-requires : tie.Need-stand-requires Inv-loop μ-loop
+stand-requires c κs = search needs
+
+loop-holds : tie.Need-loop-holds Inv-loop μ-loop
+loop-holds c =
+    let p = c .before .before .before .before .pre in
+    (p .7, refl, refl, refl, refl, refl, refl, p .9, p .10, p .8, λ done. done)
+
+sub-least : tie.Need-sub-least Inv-loop μ-loop
+sub-least c = search needs
+
+least-requires : tie.Need-least-requires Inv-loop μ-loop
+least-requires c κs = search needs
+
+slice-aggregate-fetch : tie.Need-slice-aggregate-fetch Inv-loop μ-loop
+slice-aggregate-fetch c = sym (c .before .before .before .loop .inv .2)
+
+fetch-requires : tie.Need-fetch-requires Inv-loop μ-loop
+fetch-requires c κs =
+    let p = c .before .before .before .before .before .before .before .before .pre in
+    (rw (c .before .before .before .loop .inv .2) (p .1), p .2, p .3, omega (arith, c .before .least .ensures .0), c .before .least .ensures .1)
+
+sub-from : tie.Need-sub-from Inv-loop μ-loop
+sub-from c = omega (arith, c .before .before .before .before .before .before .before .before .before .before .pre .0 .some)
+
+mul-from : tie.Need-mul-from Inv-loop μ-loop
+mul-from c =
+    let s = c .before .before .before .before .before .before .before .before .before .before in
+    omega (arith, small-past (s .args .w) (s .args .m) (s .args .r) (c .before .before .before .before .before .loop .i) (s .pre .3) (s .pre .1 .small) (s .pre .0 .few) (c .before .before .before .before .loop-test .taken))
+
+mul-from-2 : tie.Need-mul-from-2 Inv-loop μ-loop
+mul-from-2 c =
+    let s = c .before .before .before .before .before .before .before .before .before .before in
+    omega (arith, small-past (s .args .w) (s .args .m) (s .args .r) (c .before .before .before .before .before .loop .i) (s .pre .3) (s .pre .1 .small) (s .pre .0 .few) (c .before .before .before .before .loop-test .taken))
+
+slice-aggregate-lent : tie.Need-slice-aggregate-lent Inv-loop μ-loop
+slice-aggregate-lent c = sym (c .before .before .fetch .kept .1 .0 ∙ c .before .before .before .before .before .before .loop .inv .2)
+
+lent-requires : tie.Need-lent-requires Inv-loop μ-loop
+lent-requires c κs =
+    let s = c .before .before .before .before .before .before .before .before .before .before .before in
+    let l = c .before .before .before .before .before .before .loop in
+    past-room (l .i) (s .args .m) (s .args .r) _ (l .inv .0) (s .pre .1 .lent)
+
+slice-aggregate-lanes : tie.Need-slice-aggregate-lanes Inv-loop μ-loop
+slice-aggregate-lanes c = sym (c .before .before .before .before .before .before .before .before .loop .inv .3)
+
+slice-aggregate-lanes-2 : tie.Need-slice-aggregate-lanes-2 Inv-loop μ-loop
+slice-aggregate-lanes-2 c = sym (c .before .before .before .before .before .before .before .before .before .loop .inv .4)
+
+slice-aggregate-lanes-3 : tie.Need-slice-aggregate-lanes-3 Inv-loop μ-loop
+slice-aggregate-lanes-3 c = sym (c .before .before .before .before .before .before .before .before .before .before .loop .inv .5)
+
+slice-aggregate-lanes-4 : tie.Need-slice-aggregate-lanes-4 Inv-loop μ-loop
+slice-aggregate-lanes-4 c = sym (c .before .before .before .before .before .before .before .before .before .before .before .loop .inv .6)
+
+lanes-requires : tie.Need-lanes-requires Inv-loop μ-loop
+lanes-requires c κs =
+    let s = c .before .before .before .before .before .before .before .before .before .before .before .before .before .before .before .before in
+    let a = s .args in
+    let l = c .before .before .before .before .before .before .before .before .before .before .before .loop in
+    let n = c .before .before .before .before .before .before .before .before .before .least in
+    let fetch = c .before .before .before .before .before .before .before .fetch in
+    let fits : l .i + n .result ≤ a .m = omega (arith, n .ensures .0) in
+    let part = lent-part (c .before .before .before .before .before .before .before .before .before .before .before .before .stand .result) (l .i) (n .result) (a .m) (a .r) (a .w) (a .tw .now) _ _ (s .pre .2) (s .pre .3) (c .before .before .before .before .before .before .before .before .before .before .before .before .stand .ensures) (l .inv .9) fits (n .ensures .1) (s .pre .0 .few) (s .pre .1 .lent) (fetch .kept .1 .0 ∙ l .inv .2) (c .before .before .before .before .lent .ensures) (fetch .ensures) in
+    (s .pre .0, fits, n .ensures .1, part .1, l .inv .3, l .inv .4, l .inv .5, l .inv .6)
+
+slice-aggregate-pick : tie.Need-slice-aggregate-pick Inv-loop μ-loop
+slice-aggregate-pick c = sym (c .before .before .before .before .before .lanes .kept .1 .1 .0 ∙ c .before .before .before .before .before .before .before .before .before .before .before .before .before .before .before .before .before .loop .inv .3)
+
+slice-aggregate-pick-2 : tie.Need-slice-aggregate-pick-2 Inv-loop μ-loop
+slice-aggregate-pick-2 c = sym (c .before .before .before .before .before .before .lanes .kept .1 .1 .1 .1 .0 ∙ c .before .before .before .before .before .before .before .before .before .before .before .before .before .before .before .before .before .before .loop .inv .5)
+
+pick-requires : tie.Need-pick-requires Inv-loop μ-loop
+pick-requires c κs = search needs
+
+slice-aggregate-pick-3 : tie.Need-slice-aggregate-pick-3 Inv-loop μ-loop
+slice-aggregate-pick-3 c = sym (c .before .before .before .before .before .before .before .before .lanes .kept .1 .1 .1 .0 ∙ c .before .before .before .before .before .before .before .before .before .before .before .before .before .before .before .before .before .before .before .before .loop .inv .4)
+
+slice-aggregate-pick-4 : tie.Need-slice-aggregate-pick-4 Inv-loop μ-loop
+slice-aggregate-pick-4 c = sym (c .before .before .before .before .before .before .before .before .before .lanes .kept .1 .1 .1 .1 .1 .0 ∙ c .before .before .before .before .before .before .before .before .before .before .before .before .before .before .before .before .before .before .before .before .before .loop .inv .6)
+
+pick-requires-2 : tie.Need-pick-requires-2 Inv-loop μ-loop
+pick-requires-2 c κs = search needs
+
+store-requires : tie.Need-store-requires Inv-loop μ-loop
+store-requires c κs =
+    let s = c .before .before .before .before .before .before .before .before .before .before .before .before .before .before .before .before .before .before .before .before .before .before .before .before .before .before .before .before in
+    let a = s .args in
+    let l = c .before .before .before .before .before .before .before .before .before .before .before .before .before .before .before .before .before .before .before .before .before .before .before .loop in
+    let n = c .before .before .before .before .before .before .before .before .before .before .before .before .before .before .before .before .before .before .before .before .before .least in
+    let lanes = c .before .before .before .before .before .before .before .before .before .before .before .lanes in (
+      record { blocks = rw (l .inv .1) (s .pre .4); within = omega (arith, n .ensures .0, l .inv .0); lanes = n .ensures .1 },
+      record {
+        batch = s .pre .5;
+        lanes = even-batch (a .even) (l .i) (a .m) (a .s) (a .r) _ (s .pre .6) (s .pre .4) (l .inv .7) (n .ensures .3) (n .ensures .4);
+        stride = s .pre .6;
+      },
+      l .inv .8,
+      picked-size (a .r) 128 _ _ _ (c .before .before .before .before .pick .ensures) (lanes .kept .1 .1 .0 ∙ l .inv .3) (lanes .kept .1 .1 .1 .1 .0 ∙ l .inv .5),
+      picked-size (a .r) 128 _ _ _ (c .before .pick2 .ensures) (lanes .kept .1 .1 .1 .0 ∙ l .inv .4) (lanes .kept .1 .1 .1 .1 .1 .0 ∙ l .inv .6),
+    )
+
+add-i : tie.Need-add-i Inv-loop μ-loop
+add-i c = omega (arith, c .before .before .before .before .before .before .before .before .before .before .before .before .before .before .before .before .before .before .before .before .before .before .before .before .before .before .before .before .before .before .before .fits .m, c .before .before .before .before .before .before .before .before .before .before .before .before .before .before .before .before .before .before .before .before .before .before .before .before .least .ensures .0, c .before .before .before .before .before .before .before .before .before .before .before .before .before .before .before .before .before .before .before .before .before .before .before .before .before .before .loop .inv .0)
+
+loop-less : tie.Need-loop-less Inv-loop μ-loop
+loop-less c =
+    let n = c .before .before .before .before .before .before .before .before .before .before .before .before .before .before .before .before .before .before .before .before .before .before .before .before .least in
+    let t = c .before .before .before .before .before .before .before .before .before .before .before .before .before .before .before .before .before .before .before .before .before .before .before .before .before .loop-test .taken in
+    let some : 0 < n .result = n .ensures .2 (omega (arith, t)) (omega arith) in
+    omega (arith, n .ensures .0, t)
+
+loop-again : tie.Need-loop-again Inv-loop μ-loop
+loop-again c =
+    let s = c .before .before .before .before .before .before .before .before .before .before .before .before .before .before .before .before .before .before .before .before .before .before .before .before .before .before .before .before .before .before .before in
+    let a = s .args in
+    let l = c .before .before .before .before .before .before .before .before .before .before .before .before .before .before .before .before .before .before .before .before .before .before .before .before .before .before .loop in
+    let n = c .before .before .before .before .before .before .before .before .before .before .before .before .before .before .before .before .before .before .before .before .before .before .before .before .least in
+    let fetch = c .before .before .before .before .before .before .before .before .before .before .before .before .before .before .before .before .before .before .before .before .before .before .fetch in
+    let lanes = c .before .before .before .before .before .before .before .before .before .before .before .before .before .before .lanes in
+    let store = c .before .before .store in
+    let fits : l .i + n .result ≤ a .m = omega (arith, n .ensures .0, l .inv .0) in
+    let v = outputOf false (a .m) (a .r) (a .src .now) (lentAt (a .m) (a .r) (a .w) (a .tw .now)) in
+    let part = lent-part (c .before .before .before .before .before .before .before .before .before .before .before .before .before .before .before .before .before .before .before .before .before .before .before .before .before .before .before .stand .result) (l .i) (n .result) (a .m) (a .r) (a .w) (a .tw .now) _ _ (s .pre .2) (s .pre .3) (c .before .before .before .before .before .before .before .before .before .before .before .before .before .before .before .before .before .before .before .before .before .before .before .before .before .before .before .stand .ensures) (l .inv .9) fits (n .ensures .1) (s .pre .0 .few) (s .pre .1 .lent) (fetch .kept .1 .0 ∙ l .inv .2) (c .before .before .before .before .before .before .before .before .before .before .before .before .before .before .before .before .before .before .before .lent .ensures) (fetch .ensures) in
+    let held = lanes .ensures (lentAt (a .m) (a .r) (a .w) (a .tw .now)) (part .0) in (
+      fits,
+      store .kept .1 .1 .0 ∙ l .inv .1,
+      fetch .kept .1 .0 ∙ l .inv .2,
+      lanes .kept .1 .1 .0 ∙ l .inv .3,
+      lanes .kept .1 .1 .1 .0 ∙ l .inv .4,
+      lanes .kept .1 .1 .1 .1 .0 ∙ l .inv .5,
+      lanes .kept .1 .1 .1 .1 .1 .0 ∙ l .inv .6,
+      even-add (a .even) (l .i) (n .result) (l .inv .7) (even-batch (a .even) (l .i) (a .m) (a .s) (a .r) _ (s .pre .6) (s .pre .4) (l .inv .7) (n .ensures .3) (n .ensures .4)),
+      store .ensures .0,
+      λ x. omega (arith, l .inv .9 x),
+      λ done. store .ensures .1 v (picked (l .i) (n .result) (a .r) v (lanes .last .1 .1 .0) (lanes .last .1 .1 .1 .0) (lanes .last .1 .1 .1 .1 .0) (lanes .last .1 .1 .1 .1 .1 .0) _ _ (c .before .before .before .before .before .before .before .pick .ensures) (c .before .before .before .before .pick2 .ensures) held) (l .inv .10 done),
+    )
+
+same-length : tie.Need-same-length Inv-loop μ-loop
+same-length c = c .before .loop .inv .1
+
+returns : tie.Need-returns Inv-loop μ-loop
+returns c =
+    λ done i p li lp. c .before .loop .inv .10 done i p (omega (arith, c .loop-test .left)) lp
+
+pub by-sixteens-spec : {M : Type 1} → statement M
+by-sixteens-spec =
+    tie.close
+    (tie.spec
+    Inv-loop
+    μ-loop
+    stand-requires
+    loop-holds
+    sub-least
+    least-requires
+    slice-aggregate-fetch
+    fetch-requires
+    sub-from
+    mul-from
+    mul-from-2
+    slice-aggregate-lent
+    lent-requires
+    slice-aggregate-lanes
+    slice-aggregate-lanes-2
+    slice-aggregate-lanes-3
+    slice-aggregate-lanes-4
+    lanes-requires
+    slice-aggregate-pick
+    slice-aggregate-pick-2
+    pick-requires
+    slice-aggregate-pick-3
+    slice-aggregate-pick-4
+    pick-requires-2
+    store-requires
+    add-i
+    loop-less
+    loop-again
+    same-length
+    returns)
