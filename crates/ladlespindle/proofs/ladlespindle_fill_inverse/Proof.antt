@@ -4,21 +4,6 @@ use borrow.Author.Needs.{needs}
 use Rattle.ladlespindle.proofs.ladlespindle_fill_inverse.Statement.{statement}
 use Rattle.ladlespindle.proofs.ladlespindle_fill_inverse.Tie as tie
 
-fill-inverse-requires : tie.Need-fill-inverse-requires
-fill-inverse-requires c κs = search needs
-
-number-requires : tie.Need-number-requires
-number-requires c κs = search needs
-
-place-requires : tie.Need-place-requires
-place-requires c κs = search needs
-
-same-length : tie.Need-same-length
-same-length c = search needs
-
-same-length-2 : tie.Need-same-length-2
-same-length-2 c = search needs
-
 returns : tie.Need-returns
 returns c =
     let o = c .before .before .before .before .before .before .fill-inverse in
@@ -27,10 +12,4 @@ returns c =
 pub ladlespindle-fill-inverse-spec : {M : Type 1} → statement M
 ladlespindle-fill-inverse-spec =
     tie.close
-    (tie.spec
-    fill-inverse-requires
-    number-requires
-    place-requires
-    same-length
-    same-length-2
-    returns)
+    (tie.spec (λ c κs. search needs) (λ c κs. search needs) (λ c κs. search needs) (λ c. search needs) (λ c. search needs) returns)

@@ -4,24 +4,6 @@ use borrow.Author.Needs.{needs}
 use Rattle.ladlespindle.proofs.ladlespindle_remainder_run.Statement.{statement}
 use Rattle.ladlespindle.proofs.ladlespindle_remainder_run.Tie as tie
 
-run-requires : tie.Need-run-requires
-run-requires c κs = search needs
-
-number-requires : tie.Need-number-requires
-number-requires c κs = search needs
-
-place-requires : tie.Need-place-requires
-place-requires c κs = search needs
-
-holder-requires : tie.Need-holder-requires
-holder-requires c κs = search needs
-
-same-length : tie.Need-same-length
-same-length c = search needs
-
-same-length-2 : tie.Need-same-length-2
-same-length-2 c = search needs
-
 returns : tie.Need-returns
 returns c =
     let a = c .before .before .before .before .before .before .before .before .before .before .before .before .args in
@@ -31,11 +13,5 @@ returns c =
 pub ladlespindle-remainder-run-spec : {M : Type 1} → statement M
 ladlespindle-remainder-run-spec =
     tie.close
-    (tie.spec
-    run-requires
-    number-requires
-    place-requires
-    holder-requires
-    same-length
-    same-length-2
-    returns)
+    (tie.spec (λ c κs. search needs) (λ c κs. search needs) (λ c κs. search needs) (λ c κs. search needs) (λ c. search needs)
+    (λ c. search needs) returns)

@@ -4,23 +4,8 @@ use borrow.Author.Needs.{needs}
 use Rattle.ladlespindle.proofs.ladlespindle_turn.Statement.{statement}
 use Rattle.ladlespindle.proofs.ladlespindle_turn.Tie as tie
 
-turn-of-requires : tie.Need-turn-of-requires
-turn-of-requires c κs = search needs
-
 enum-told : tie.Need-enum-told
 enum-told c = search needs
-
-words-of-requires : tie.Need-words-of-requires
-words-of-requires c κs = search needs
-
-enum-known-verdict : tie.Need-enum-known-verdict
-enum-known-verdict c = search needs
-
-number-requires : tie.Need-number-requires
-number-requires c κs = search needs
-
-place-requires : tie.Need-place-requires
-place-requires c κs = search needs
 
 returns : tie.Need-returns
 returns c =
@@ -37,12 +22,5 @@ returns-2 c =
 pub ladlespindle-turn-spec : {M : Type 1} → statement M
 ladlespindle-turn-spec =
     tie.close
-    (tie.spec
-    turn-of-requires
-    enum-told
-    words-of-requires
-    enum-known-verdict
-    number-requires
-    place-requires
-    returns
-    returns-2)
+    (tie.spec (λ c κs. search needs) enum-told (λ c κs. search needs) (λ c. search needs) (λ c κs. search needs) (λ c κs. search needs)
+    returns returns-2)

@@ -16,9 +16,6 @@ array-share-prefix-entries c = half-fits (c .before .before .before .args .list 
 slice-aggregate-counts-of : tie.Need-slice-aggregate-counts-of
 slice-aggregate-counts-of c = sym (length-take-le _ _ (half-fits (c .before .before .before .before .args .list .now) (accepted-good (c .before .before .before .before .args .list .now) (c .before .before .before .before .pre .0)) (c .before .before .half-list .result) (c .before .before .half-list .ensures)))
 
-counts-of-requires : tie.Need-counts-of-requires
-counts-of-requires c κs = search needs
-
 merge-all-requires : tie.Need-merge-all-requires
 merge-all-requires c κs = half-total (c .before .before .before .before .before .args .list .now) (accepted-good (c .before .before .before .before .before .args .list .now) (c .before .before .before .before .before .pre .0)) (c .before .before .before .half-list .result) (c .before .before .before .half-list .ensures) (c .counts-of .result) (c .counts-of .ensures)
 
@@ -34,12 +31,5 @@ returns c = answer-made (c .before .before .before .before .before .before .befo
 pub accepted-spec : {M : Type 1} → statement M
 accepted-spec =
     tie.close
-    (tie.spec
-    half-list-requires
-    array-share-prefix-entries
-    slice-aggregate-counts-of
-    counts-of-requires
-    merge-all-requires
-    size-requires
-    ascending-requires
-    returns)
+    (tie.spec half-list-requires array-share-prefix-entries slice-aggregate-counts-of (λ c κs. search needs) merge-all-requires
+    size-requires ascending-requires returns)

@@ -11,17 +11,8 @@ use Rattle.plan.proofs.Planning.{answer-refused, answer-accepted}
 use Rattle.plan.proofs.plan.Statement.{statement}
 use Rattle.plan.proofs.plan.Tie as tie
 
-refused-requires : tie.Need-refused-requires
-refused-requires c κs = search needs
-
 returns : tie.Need-returns
 returns c = record { answer = answer-refused (c .before .before .before .args .list .now) Empty _ (c .refused .ensures) (plan-empty (c .before .before .before .args .list .now) (c .before .if1 .taken)) }
-
-first-bad-requires : tie.Need-first-bad-requires
-first-bad-requires c κs = search needs
-
-refused-requires-2 : tie.Need-refused-requires-2
-refused-requires-2 c κs = search needs
 
 returns-2 : tie.Need-returns-2
 returns-2 c =
@@ -32,12 +23,6 @@ returns-2 c =
           ∙ ap (λ (n : ℕ). Refused (NoRadix n)) (sym (c .before .before .first-bad .ensures)));
     }
 
-running-product-requires : tie.Need-running-product-requires
-running-product-requires c κs = search needs
-
-refused-requires-3 : tie.Need-refused-requires-3
-refused-requires-3 c κs = search needs
-
 returns-3 : tie.Need-returns-3
 returns-3 c =
     record {
@@ -46,9 +31,6 @@ returns-3 c =
           (plan-over (c .before .before .before .before .before .before .before .args .list .now) (c .before .before .before .before .before .if1 .left) (rw (c .before .before .before .before .first-bad .ensures) at (c .before .before .before .if2 .left)) (rw (running-early (c .before .before .before .before .before .before .before .args .list .now) (c .before .before .running-product .result) (c .before .before .running-product .ensures)) at (c .before .if3 .taken))
           ∙ ap (λ (n : ℕ). Refused (TooLarge n)) (sym (running-early (c .before .before .before .before .before .before .before .args .list .now) (c .before .before .running-product .result) (c .before .before .running-product .ensures))));
     }
-
-refused-requires-4 : tie.Need-refused-requires-4
-refused-requires-4 c κs = search needs
 
 returns-4 : tie.Need-returns-4
 returns-4 c =
@@ -76,16 +58,5 @@ returns-5 c =
 pub plan-spec : {M : Type 1} → statement M
 plan-spec =
     tie.close
-    (tie.spec
-    refused-requires
-    returns
-    first-bad-requires
-    refused-requires-2
-    returns-2
-    running-product-requires
-    refused-requires-3
-    returns-3
-    refused-requires-4
-    returns-4
-    accepted-requires
-    returns-5)
+    (tie.spec (λ c κs. search needs) returns (λ c κs. search needs) (λ c κs. search needs) returns-2 (λ c κs. search needs)
+    (λ c κs. search needs) returns-3 (λ c κs. search needs) returns-4 accepted-requires returns-5)

@@ -13,9 +13,6 @@ use Rattle.plan_text.proofs.Plans.{planned-ok, take-least, reported}
 use Rattle.plan_text.proofs.report.Statement.{statement}
 use Rattle.plan_text.proofs.report.Tie as tie
 
-least-requires : tie.Need-least-requires
-least-requires c κs = search needs
-
 slice-aggregate-read-radices : tie.Need-slice-aggregate-read-radices
 slice-aggregate-read-radices c =
     sym (length-take-le (c .before .least .result) (c .before .before .before .args .input .now) (omega arith))
@@ -32,21 +29,12 @@ slice-aggregate-plan c =
     let r = c .before .before .read-radices .result in
     sym (length-take-le (r .count) (r .list) (omega arith))
 
-plan-requires : tie.Need-plan-requires
-plan-requires c κs = search needs
-
 enum-told : tie.Need-enum-told
 enum-told c = search needs
 
 plan-lines-requires : tie.Need-plan-lines-requires
 plan-lines-requires c κs =
     planned-ok _ (c .before .before .plan .result) (c .before .before .plan .ensures .answer) (c .enum-told .given .1)
-
-enum-known-verdict : tie.Need-enum-known-verdict
-enum-known-verdict c = search needs
-
-refusal-line-requires : tie.Need-refusal-line-requires
-refusal-line-requires c κs = search needs
 
 returns : tie.Need-returns
 returns c =
@@ -81,16 +69,5 @@ returns-2 c =
 pub report-spec : {M : Type 1} → statement M
 report-spec =
     tie.close
-    (tie.spec
-    least-requires
-    slice-aggregate-read-radices
-    read-radices-requires
-    array-share-prefix-list
-    slice-aggregate-plan
-    plan-requires
-    enum-told
-    plan-lines-requires
-    enum-known-verdict
-    refusal-line-requires
-    returns
-    returns-2)
+    (tie.spec (λ c κs. search needs) slice-aggregate-read-radices read-radices-requires array-share-prefix-list slice-aggregate-plan
+    (λ c κs. search needs) enum-told plan-lines-requires (λ c. search needs) (λ c κs. search needs) returns returns-2)

@@ -9,14 +9,8 @@ use Rattle.remainder.proofs.Runs.{run-unplanned, run-lent}
 use Rattle.remainder.proofs.run.Statement.{statement}
 use Rattle.remainder.proofs.run.Tie as tie
 
-is-planned-requires : tie.Need-is-planned-requires
-is-planned-requires c κs = search needs
-
 returns : tie.Need-returns
 returns c = let a = c .before .before .before .before .args in settles-refused _ _ _ _ (run-unplanned (a .plan) (a .m) (a .w) (a .«data» .now, a .scratch .now) (sym (c .before .is-planned .ensures) ∙ not-true _ (c .if1 .taken)))
-
-lent-requires : tie.Need-lent-requires
-lent-requires c κs = search needs
 
 enum-told : tie.Need-enum-told
 enum-told c = search needs
@@ -28,22 +22,10 @@ all-requires c κs =
     let t = taken (a .plan) (a .m) (a .w) (a .«data» .now) (length (a .scratch .now)) (sym (c .before .before .before .before .before .before .before .is-planned .ensures) ∙ not-false _ (c .before .before .before .before .before .before .if1 .left)) (sym (c .before .before .before .before .lent .ensures) ∙ c .before .before .enum-told .given .1) in
     record { lent = t .0; small = search needs; wide = t .1 }
 
-enum-known-why : tie.Need-enum-known-why
-enum-known-why c = search needs
-
-same-length : tie.Need-same-length
-same-length c = search needs
-
-same-length-2 : tie.Need-same-length-2
-same-length-2 c = search needs
-
 returns-2 : tie.Need-returns-2
 returns-2 c =
     let a = c .before .before .before .before .before .before .before .before .before .before .before .before .before .before .before .args in
     settles-accepted _ _ _ _ (sym (c .before .before .before .before .before .before .before .enum-told .given .1) ∙ c .before .before .before .before .before .before .before .before .before .lent .ensures ∙ run-lent (a .plan) (a .m) (a .w) (a .«data» .now, a .scratch .now) (sym (c .before .before .before .before .before .before .before .before .before .before .before .before .is-planned .ensures) ∙ not-false _ (c .before .before .before .before .before .before .before .before .before .before .before .if1 .left))) (λ i. (c .before .before .before .before .all .ensures .0 i, c .before .before .before .before .all .ensures .1 i))
-
-same-length-3 : tie.Need-same-length-3
-same-length-3 c = search needs
 
 returns-3 : tie.Need-returns-3
 returns-3 c =
@@ -53,15 +35,5 @@ returns-3 c =
 pub run-spec : {M : Type 1} → statement M
 run-spec =
     tie.close
-    (tie.spec
-    is-planned-requires
-    returns
-    lent-requires
-    enum-told
-    all-requires
-    enum-known-why
-    same-length
-    same-length-2
-    returns-2
-    same-length-3
-    returns-3)
+    (tie.spec (λ c κs. search needs) returns (λ c κs. search needs) enum-told all-requires (λ c. search needs) (λ c. search needs)
+    (λ c. search needs) returns-2 (λ c. search needs) returns-3)

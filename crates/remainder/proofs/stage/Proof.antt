@@ -8,17 +8,11 @@ use Rattle.remainder.proofs.Verdicts.{taken, stage-unplanned, stage-unk
 use Rattle.remainder.proofs.stage.Statement.{statement}
 use Rattle.remainder.proofs.stage.Tie as tie
 
-is-planned-requires : tie.Need-is-planned-requires
-is-planned-requires c κs = search needs
-
 returns : tie.Need-returns
 returns c = let a = c .before .before .before .before .args in settles-refused _ _ _ _ (stage-unplanned (a .plan) (a .number) (a .m) (a .w) (a .input .now) (length (a .other .now)) (sym (c .before .is-planned .ensures) ∙ not-true _ (c .if1 .taken)))
 
 returns-2 : tie.Need-returns-2
 returns-2 c = let a = c .before .before .before .before .before .before .args in settles-refused _ _ _ _ (stage-unknown (a .plan) (a .number) (a .m) (a .w) (a .input .now) (length (a .other .now)) (sym (c .before .before .before .is-planned .ensures) ∙ not-false _ (c .before .before .if1 .left)) (c .if2 .taken))
-
-lent-requires : tie.Need-lent-requires
-lent-requires c κs = search needs
 
 enum-told : tie.Need-enum-told
 enum-told c = search needs
@@ -38,12 +32,6 @@ work-requires c κs =
       cells = t .0 .cells;
     }
 
-enum-known-why : tie.Need-enum-known-why
-enum-known-why c = search needs
-
-same-length : tie.Need-same-length
-same-length c = search needs
-
 returns-3 : tie.Need-returns-3
 returns-3 c =
     let a = c .before .before .before .before .before .before .before .before .before .before .before .before .before .args in
@@ -57,14 +45,5 @@ returns-4 c =
 pub stage-spec : {M : Type 1} → statement M
 stage-spec =
     tie.close
-    (tie.spec
-    is-planned-requires
-    returns
-    returns-2
-    lent-requires
-    enum-told
-    work-requires
-    enum-known-why
-    same-length
-    returns-3
-    returns-4)
+    (tie.spec (λ c κs. search needs) returns returns-2 (λ c κs. search needs) enum-told work-requires (λ c. search needs)
+    (λ c. search needs) returns-3 returns-4)

@@ -11,12 +11,6 @@ use Rattle.spectrum.proofs.Verdicts.{forwardable}
 use Rattle.spectrum.proofs.forward.Statement.{statement}
 use Rattle.spectrum.proofs.forward.Tie as tie
 
-is-bins-requires : tie.Need-is-bins-requires
-is-bins-requires c κs = search needs
-
-lent-requires : tie.Need-lent-requires
-lent-requires c κs = search needs
-
 enum-told : tie.Need-enum-told
 enum-told c = search needs
 
@@ -25,15 +19,6 @@ unfolding ofBits
 forward-requires c κs =
     let a = c .before .before .before .before .before .before .before .before .before .before .before .before .args in
     forwardable (a .plan) (a .width) _ _ (length (a .input .now)) (length (a .output .now)) (length (a .scratch .now)) 32 (a .input .now) (a .stage-twiddles .now) (a .end-twiddles .now) _ refl (c .before .before .before .before .before .is-bins .ensures) (c .before .before .before .before .lent .ensures 32 refl) (c .before .before .enum-told .given .1)
-
-enum-known-why : tie.Need-enum-known-why
-enum-known-why c = search needs
-
-same-length : tie.Need-same-length
-same-length c = search needs
-
-same-length-2 : tie.Need-same-length-2
-same-length-2 c = search needs
 
 returns : tie.Need-returns
 unfolding ofBits
@@ -53,13 +38,5 @@ returns-2 c =
 pub forward-spec : {M : Type 1} → statement M
 forward-spec =
     tie.close
-    (tie.spec
-    is-bins-requires
-    lent-requires
-    enum-told
-    forward-requires
-    enum-known-why
-    same-length
-    same-length-2
-    returns
-    returns-2)
+    (tie.spec (λ c κs. search needs) (λ c κs. search needs) enum-told forward-requires (λ c. search needs) (λ c. search needs)
+    (λ c. search needs) returns returns-2)

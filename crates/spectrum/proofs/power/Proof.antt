@@ -11,9 +11,6 @@ use Rattle.spectrum.proofs.Sums.{bins-told}
 use Rattle.spectrum.proofs.power.Statement.{statement}
 use Rattle.spectrum.proofs.power.Tie as tie
 
-lent-bins-requires : tie.Need-lent-bins-requires
-lent-bins-requires c κs = search needs
-
 enum-told : tie.Need-enum-told
 enum-told c = search needs
 
@@ -35,9 +32,6 @@ sum-requires c κs =
     let t = bins-told (a .spectrum .now) (a .lo) (a .hi) _ (c .before .before .lent-bins .ensures) (c .enum-told .given .1) in
     (omega (arith, t .0, t .1), t .2)
 
-enum-known-why : tie.Need-enum-known-why
-enum-known-why c = search needs
-
 returns : tie.Need-returns
 returns c =
     let a = c .before .before .before .before .before .args in
@@ -55,12 +49,4 @@ returns-2 c =
 pub power-spec : {M : Type 1} → statement M
 power-spec =
     tie.close
-    (tie.spec
-    lent-bins-requires
-    enum-told
-    add-sum
-    sub-sum
-    sum-requires
-    enum-known-why
-    returns
-    returns-2)
+    (tie.spec (λ c κs. search needs) enum-told add-sum sub-sum sum-requires (λ c. search needs) returns returns-2)

@@ -7,9 +7,6 @@ use Rattle.stage.proofs.Verdicts.{stage-workable}
 use Rattle.stage.proofs.stage.Statement.{statement}
 use Rattle.stage.proofs.stage.Tie as tie
 
-lent-requires : tie.Need-lent-requires
-lent-requires c κs = search needs
-
 enum-told : tie.Need-enum-told
 enum-told c = search needs
 
@@ -17,12 +14,6 @@ work-requires : tie.Need-work-requires
 work-requires c κs =
     let a = c .before .before .before .before .before .before .before .args in
     stage-workable (a .plan) (a .number) (a .width) (a .input .now) (length (a .output .now)) (a .twiddles .now) _ (c .before .before .before .lent .ensures) (c .before .enum-told .given .1)
-
-enum-known-why : tie.Need-enum-known-why
-enum-known-why c = search needs
-
-same-length : tie.Need-same-length
-same-length c = search needs
 
 returns : tie.Need-returns
 returns c = settles-accepted _ _ _ _ (sym (c .before .before .before .before .enum-told .given .1) ∙ c .before .before .before .before .before .before .lent .ensures) (c .before .before .work .ensures)
@@ -33,11 +24,4 @@ returns-2 c = settles-refused _ _ _ _ (sym (c .before .why .given .1) ∙ c .bef
 pub stage-spec : {M : Type 1} → statement M
 stage-spec =
     tie.close
-    (tie.spec
-    lent-requires
-    enum-told
-    work-requires
-    enum-known-why
-    same-length
-    returns
-    returns-2)
+    (tie.spec (λ c κs. search needs) enum-told work-requires (λ c. search needs) (λ c. search needs) returns returns-2)

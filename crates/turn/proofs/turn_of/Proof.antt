@@ -14,23 +14,8 @@ use Rattle.turn.proofs.turn_of.Tie as tie
 is-served : (c : tie.Else1) → housed (c .before .before .args .l) ≡ true
 is-served c = sym (c .before .is-housed .ensures) ∙ not-false _ (c .if1 .left)
 
-is-housed-requires : tie.Need-is-housed-requires
-is-housed-requires c κs = search needs
-
 returns : tie.Need-returns
 returns c = refused (c .before .before .args .t) (c .before .before .args .l) (sym (c .before .is-housed .ensures) ∙ not-true _ (c .if1 .taken))
-
-cosines-requires : tie.Need-cosines-requires
-cosines-requires c κs = search needs
-
-sines-requires : tie.Need-sines-requires
-sines-requires c κs = search needs
-
-slice-aggregate-looked : tie.Need-slice-aggregate-looked
-slice-aggregate-looked c = search needs
-
-slice-aggregate-looked-2 : tie.Need-slice-aggregate-looked-2
-slice-aggregate-looked-2 c = search needs
 
 rem-looked : tie.Need-rem-looked
 rem-looked c = housed-pos (c .before .before .before .before .before .before .args .l) (is-served (c .before .before .before .before))
@@ -55,14 +40,5 @@ returns-2 c =
 pub turn-of-spec : {M : Type 1} → statement M
 turn-of-spec =
     tie.close
-    (tie.spec
-    is-housed-requires
-    returns
-    cosines-requires
-    sines-requires
-    slice-aggregate-looked
-    slice-aggregate-looked-2
-    rem-looked
-    cast-looked
-    looked-requires
-    returns-2)
+    (tie.spec (λ c κs. search needs) returns (λ c κs. search needs) (λ c κs. search needs) (λ c. search needs) (λ c. search needs)
+    rem-looked cast-looked looked-requires returns-2)

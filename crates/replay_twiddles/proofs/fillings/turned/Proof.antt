@@ -13,73 +13,12 @@ Inv-loop words quarters found₀ i₀ found i = (i ≤ length words / 2) × (fou
 abbrev μ-loop : tie.MeasureT-loop
 μ-loop words quarters found₀ i₀ found i = length words / 2 - i
 
-loop-holds : tie.Need-loop-holds Inv-loop μ-loop
-loop-holds c = search needs
-
-mul-bits : tie.Need-mul-bits Inv-loop μ-loop
-mul-bits c = search needs
-
-mul-bits-2 : tie.Need-mul-bits-2 Inv-loop μ-loop
-mul-bits-2 c = search needs
-
-shared-slice-read-bits : tie.Need-shared-slice-read-bits Inv-loop μ-loop
-shared-slice-read-bits c = search needs
-
-bits-requires : tie.Need-bits-requires Inv-loop μ-loop
-bits-requires c κs = search needs
-
-mul-bits-3 : tie.Need-mul-bits-3 Inv-loop μ-loop
-mul-bits-3 c = search needs
-
-add-bits : tie.Need-add-bits Inv-loop μ-loop
-add-bits c = search needs
-
-mul-bits-4 : tie.Need-mul-bits-4 Inv-loop μ-loop
-mul-bits-4 c = search needs
-
-shared-slice-read-bits-2 : tie.Need-shared-slice-read-bits-2 Inv-loop μ-loop
-shared-slice-read-bits-2 c = search needs
-
-bits-requires-2 : tie.Need-bits-requires-2 Inv-loop μ-loop
-bits-requires-2 c κs = search needs
-
-quarter-requires : tie.Need-quarter-requires Inv-loop μ-loop
-quarter-requires c κs = search needs
-
-add-found : tie.Need-add-found Inv-loop μ-loop
-add-found c = search needs
-
-add-i : tie.Need-add-i Inv-loop μ-loop
-add-i c = search needs
-
-loop-less : tie.Need-loop-less Inv-loop μ-loop
-loop-less c = search needs
-
 loop-again : tie.Need-loop-again Inv-loop μ-loop
 loop-again c = ⊎-elim (λ w. (omega arith, omega arith)) (λ w. (omega arith, omega arith)) (c .if1 .came)
-
-returns : tie.Need-returns Inv-loop μ-loop
-returns c = search needs
 
 pub turned-spec : {M : Type 1} → statement M
 turned-spec =
     tie.close
-    (tie.spec
-    Inv-loop
-    μ-loop
-    loop-holds
-    mul-bits
-    mul-bits-2
-    shared-slice-read-bits
-    bits-requires
-    mul-bits-3
-    add-bits
-    mul-bits-4
-    shared-slice-read-bits-2
-    bits-requires-2
-    quarter-requires
-    add-found
-    add-i
-    loop-less
-    loop-again
-    returns)
+    (tie.spec Inv-loop μ-loop (λ c. search needs) (λ c. search needs) (λ c. search needs) (λ c. search needs) (λ c κs. search needs)
+    (λ c. search needs) (λ c. search needs) (λ c. search needs) (λ c. search needs) (λ c κs. search needs) (λ c κs. search needs)
+    (λ c. search needs) (λ c. search needs) (λ c. search needs) loop-again (λ c. search needs))

@@ -21,53 +21,14 @@ abbrev μ-loop : tie.MeasureT-loop
 loop-holds : tie.Need-loop-holds Inv-loop μ-loop
 loop-holds c = (omega arith, refl, refl, batched-none _ _ _ _ _ _ _)
 
-add-get : tie.Need-add-get Inv-loop μ-loop
-add-get c = search needs
-
-get-requires : tie.Need-get-requires Inv-loop μ-loop
-get-requires c κs = search needs
-
-sub-get : tie.Need-sub-get Inv-loop μ-loop
-sub-get c = search needs
-
-sub-get-2 : tie.Need-sub-get-2 Inv-loop μ-loop
-sub-get-2 c = search needs
-
-get-requires-2 : tie.Need-get-requires-2 Inv-loop μ-loop
-get-requires-2 c κs = search needs
-
-add-get-2 : tie.Need-add-get-2 Inv-loop μ-loop
-add-get-2 c = search needs
-
-sub-get-3 : tie.Need-sub-get-3 Inv-loop μ-loop
-sub-get-3 c = search needs
-
 get-requires-3 : tie.Need-get-requires-3 Inv-loop μ-loop
 get-requires-3 c κs =
     let s = c .before .before .before .before .before .before .before .before in
     let l = c .before .before .before .loop in
     omega (arith, s .pre .some, s .pre .lent (s .args .k + l .j) (omega (arith, s .pre .room, c .before .before .loop-test .taken)))
 
-near-requires : tie.Need-near-requires Inv-loop μ-loop
-near-requires c κs = search needs
-
-put-requires : tie.Need-put-requires Inv-loop μ-loop
-put-requires c κs = search needs
-
-sub-put : tie.Need-sub-put Inv-loop μ-loop
-sub-put c = search needs
-
-far-requires : tie.Need-far-requires Inv-loop μ-loop
-far-requires c κs = search needs
-
-put-requires-2 : tie.Need-put-requires-2 Inv-loop μ-loop
-put-requires-2 c κs = search needs
-
 add-j : tie.Need-add-j Inv-loop μ-loop
 add-j c = omega (arith, c .before .before .before .before .before .before .before .before .before .before .before .before .before .loop-test .taken, c .before .before .before .before .before .before .before .before .before .before .before .before .before .before .before .before .before .before .before .pre .short)
-
-loop-less : tie.Need-loop-less Inv-loop μ-loop
-loop-less c = search needs
 
 loop-again : tie.Need-loop-again Inv-loop μ-loop
 loop-again c =
@@ -103,26 +64,6 @@ returns c =
 pub batch-spec : {M : Type 1} → statement M
 batch-spec =
     tie.close
-    (tie.spec
-    Inv-loop
-    μ-loop
-    loop-holds
-    add-get
-    get-requires
-    sub-get
-    sub-get-2
-    get-requires-2
-    add-get-2
-    sub-get-3
-    get-requires-3
-    near-requires
-    put-requires
-    sub-put
-    far-requires
-    put-requires-2
-    add-j
-    loop-less
-    loop-again
-    same-length
-    same-length-2
-    returns)
+    (tie.spec Inv-loop μ-loop loop-holds (λ c. search needs) (λ c κs. search needs) (λ c. search needs) (λ c. search needs)
+    (λ c κs. search needs) (λ c. search needs) (λ c. search needs) get-requires-3 (λ c κs. search needs) (λ c κs. search needs)
+    (λ c. search needs) (λ c κs. search needs) (λ c κs. search needs) add-j (λ c. search needs) loop-again same-length same-length-2 returns)

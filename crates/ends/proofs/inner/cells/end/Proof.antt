@@ -9,18 +9,6 @@ use Rattle.ends.proofs.Cells.{stepped-first, stepped-centre, stepped-al
 use Rattle.ends.proofs.inner.cells.end.Statement.{statement}
 use Rattle.ends.proofs.inner.cells.end.Tie as tie
 
-get-requires : tie.Need-get-requires
-get-requires c κs = search needs
-
-first-requires : tie.Need-first-requires
-first-requires c κs = search needs
-
-last-requires : tie.Need-last-requires
-last-requires c κs = search needs
-
-put-both-requires : tie.Need-put-both-requires
-put-both-requires c κs = search needs
-
 pairs-requires : tie.Need-pairs-requires
 pairs-requires c κs =
     let s = c .before .before .before .before .before .before .before .before .before .before .before in
@@ -39,29 +27,14 @@ stepped c =
     (c .before .before .before .before .before .last .ensures ∙ ap (λ (z : Complex). f .last z (a .y)) x ∙ s .pre .2 .last)
     (c .before .before .before .before .put-both .ensures))
 
-mul-if1 : tie.Need-mul-if1
-mul-if1 c = search needs
-
-get-requires-2 : tie.Need-get-requires-2
-get-requires-2 c κs = search needs
-
-centre-requires : tie.Need-centre-requires
-centre-requires c κs = search needs
-
 put-requires : tie.Need-put-requires
 put-requires c κs = omega (arith, c .before .before .before .before .before .before .pairs .kept .1 .1 .0, c .before .before .before .before .before .before .before .before .before .before .put-both .kept .0, c .before .before .before .before .before .before .before .before .before .before .before .before .before .before .before .before .before .before .pre .0 .long, c .before .before .before .if1 .taken)
-
-same-length : tie.Need-same-length
-same-length c = search needs
 
 returns : tie.Need-returns
 returns c =
     let a = c .before .before .before .before .before .before .before .before .before .before .before .before .before .before .before .before .before .before .before .before .before .args in
     let f = stepsOf (a .forward) in
     stepped-centre f (a .h) (a .twiddles .now) (a .cells .now) _ _ (stepped (c .before .before .before .before .before .before .before .before .before)) (c .before .before .before .before .before .before .if1 .taken) _ _ (c .before .before .before .centre .ensures ∙ ap (f .centre) (c .before .before .before .before .before .get2 .ensures)) (c .before .before .put .ensures)
-
-same-length-2 : tie.Need-same-length-2
-same-length-2 c = search needs
 
 returns-2 : tie.Need-returns-2
 returns-2 c =
@@ -71,17 +44,5 @@ returns-2 c =
 pub end-spec : {M : Type 1} → statement M
 end-spec =
     tie.close
-    (tie.spec
-    get-requires
-    first-requires
-    last-requires
-    put-both-requires
-    pairs-requires
-    mul-if1
-    get-requires-2
-    centre-requires
-    put-requires
-    same-length
-    returns
-    same-length-2
-    returns-2)
+    (tie.spec (λ c κs. search needs) (λ c κs. search needs) (λ c κs. search needs) (λ c κs. search needs) pairs-requires (λ c. search needs)
+    (λ c κs. search needs) (λ c κs. search needs) put-requires (λ c. search needs) returns (λ c. search needs) returns-2)

@@ -19,14 +19,8 @@ Inv-loop cells twiddles out₀ h forward ahead₀ back₀ end k₀ out ahead bac
 abbrev μ-loop : tie.MeasureT-loop
 μ-loop cells twiddles out₀ h forward ahead₀ back₀ end k₀ out ahead back k = end - k
 
-add-end : tie.Need-add-end Inv-loop μ-loop
-add-end c = search needs
-
 loop-holds : tie.Need-loop-holds Inv-loop μ-loop
 loop-holds c = ((omega arith, omega arith, refl, λ s. s), refl, refl)
-
-sub-left : tie.Need-sub-left Inv-loop μ-loop
-sub-left c = search needs
 
 -- how many pairs a turn takes
 taken : (c : tie.Joined1 Inv-loop μ-loop) → (0 < c .if1 .len) × (c .if1 .len ≤ 32) × (c .before .before .loop .k + c .if1 .len ≤ (c .before .before .before .before .before .before .args .h + 1) / 2)
@@ -36,12 +30,6 @@ taken c =
     (λ w. (omega (arith, w .1, lt), omega (arith, w .0 .taken, w .1), omega (arith, w .1, lt)))
     (λ w. (omega (arith, w .1), omega (arith, w .1), omega (arith, w .0 .left, w .1, lt)))
     (c .if1 .came)
-
-slice-aggregate-step : tie.Need-slice-aggregate-step Inv-loop μ-loop
-slice-aggregate-step c = search needs
-
-slice-aggregate-step-2 : tie.Need-slice-aggregate-step-2 Inv-loop μ-loop
-slice-aggregate-step-2 c = search needs
 
 step-requires : tie.Need-step-requires Inv-loop μ-loop
 step-requires c κs =
@@ -87,17 +75,5 @@ returns c = let l = c .before .loop in (omega (arith, c .loop-test .left), l .in
 pub pairs-spec : {M : Type 1} → statement M
 pairs-spec =
     tie.close
-    (tie.spec
-    Inv-loop
-    μ-loop
-    add-end
-    loop-holds
-    sub-left
-    slice-aggregate-step
-    slice-aggregate-step-2
-    step-requires
-    add-k
-    loop-less
-    loop-again
-    same-length
-    returns)
+    (tie.spec Inv-loop μ-loop (λ c. search needs) loop-holds (λ c. search needs) (λ c. search needs) (λ c. search needs) step-requires add-k
+    loop-less loop-again same-length returns)

@@ -19,9 +19,6 @@ Inv-loop xs b i₀ i = (i ≤ length xs) × ((k : ℕ) → b ≡ bound k → Pas
 abbrev μ-loop : tie.MeasureT-loop
 μ-loop xs b i₀ i = length xs - i
 
-passed-to-end-requires : tie.Need-passed-to-end-requires Inv-loop μ-loop
-passed-to-end-requires c κs = search needs
-
 loop-holds : tie.Need-loop-holds Inv-loop μ-loop
 loop-holds c =
     let a = c .before .before .args in
@@ -33,21 +30,6 @@ loop-holds c =
     ))
     (λ w. (omega (arith, w .1), λ k e. subst (Passed (a .b) (a .xs .now)) (sym (w .1)) (sym (zero-add _))))
     (c .if1 .came)
-
-mul-within : tie.Need-mul-within Inv-loop μ-loop
-mul-within c = search needs
-
-shared-slice-read-within : tie.Need-shared-slice-read-within Inv-loop μ-loop
-shared-slice-read-within c = search needs
-
-within-requires : tie.Need-within-requires Inv-loop μ-loop
-within-requires c κs = search needs
-
-add-i : tie.Need-add-i Inv-loop μ-loop
-add-i c = search needs
-
-loop-less : tie.Need-loop-less Inv-loop μ-loop
-loop-less c = search needs
 
 loop-again : tie.Need-loop-again Inv-loop μ-loop
 loop-again c =
@@ -70,16 +52,5 @@ returns-2 c =
 pub first-unfit-spec : {M : Type 1} → statement M
 first-unfit-spec =
     tie.close
-    (tie.spec
-    Inv-loop
-    μ-loop
-    passed-to-end-requires
-    loop-holds
-    mul-within
-    shared-slice-read-within
-    within-requires
-    add-i
-    loop-less
-    loop-again
-    returns
-    returns-2)
+    (tie.spec Inv-loop μ-loop (λ c κs. search needs) loop-holds (λ c. search needs) (λ c. search needs) (λ c κs. search needs)
+    (λ c. search needs) (λ c. search needs) loop-again returns returns-2)

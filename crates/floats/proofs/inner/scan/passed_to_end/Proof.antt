@@ -5,27 +5,6 @@ use Rattle.floats.proofs.Scan.{pass-end}
 use Rattle.floats.proofs.inner.scan.passed_to_end.Statement.{statement}
 use Rattle.floats.proofs.inner.scan.passed_to_end.Tie as tie
 
-passed-requires : tie.Need-passed-requires
-passed-requires c κs = search needs
-
-returns : tie.Need-returns
-returns c = search needs
-
-sub-if2 : tie.Need-sub-if2
-sub-if2 c = search needs
-
-returns-2 : tie.Need-returns-2
-returns-2 c = search needs
-
-sub-all-within : tie.Need-sub-all-within
-sub-all-within c = search needs
-
-all-within-requires : tie.Need-all-within-requires
-all-within-requires c κs = search needs
-
-returns-3 : tie.Need-returns-3
-returns-3 c = search needs
-
 returns-4 : tie.Need-returns-4
 returns-4 c =
     let p = c .before .before .before .before in
@@ -37,12 +16,5 @@ returns-4 c =
 pub passed-to-end-spec : {M : Type 1} → statement M
 passed-to-end-spec =
     tie.close
-    (tie.spec
-    passed-requires
-    returns
-    sub-if2
-    returns-2
-    sub-all-within
-    all-within-requires
-    returns-3
-    returns-4)
+    (tie.spec (λ c κs. search needs) (λ c. search needs) (λ c. search needs) (λ c. search needs) (λ c. search needs) (λ c κs. search needs)
+    (λ c. search needs) returns-4)

@@ -12,6 +12,4 @@ returns-2 c = first-decides _ _ (c .if1 .left)
 pub within-spec : {M : Type 1} → statement M
 within-spec =
     tie.close
-    (tie.spec
-    returns
-    returns-2)
+    (tie.spec returns returns-2)

@@ -23,9 +23,6 @@ abbrev μ-loop : tie.MeasureT-loop
 loop-holds : tie.Need-loop-holds Inv-loop μ-loop
 loop-holds c = (omega arith, refl, λ lent done i p li lp. done i p (omega arith) lp)
 
-add-k : tie.Need-add-k Inv-loop μ-loop
-add-k c = search needs
-
 cells-requires : tie.Need-cells-requires Inv-loop μ-loop
 cells-requires c κs = (sized-at 2 (c .match .keys1) (c .before .before .before .before .before .before .pre .0), omega arith, λ e. absurd (true≢false e))
 
@@ -104,12 +101,6 @@ mul-spread-6 c = omega (arith, room-at (c .before .before .before .before .befor
 spread-requires-6 : tie.Need-spread-requires-6 Inv-loop μ-loop
 spread-requires-6 c κs = (omega arith, omega (arith, room-at (c .before .before .before .before .before .before .before .before .before .args .i + c .before .before .before .before .before .loop .j) (c .before .before .before .before .before .before .before .before .before .args .m) (c .before .before .before .before .before .before .before .before .before .args .r) 8 _ (eight (c .before .before .before .before .before .before .before .before .before .pre .0 .radix) (c .before .before .before .match .rest .0 .0 .0 .0 .1) (c .before .before .before .match .rest .0 .0 .0 .1) (c .before .before .before .match .rest .0 .0 .1) (c .before .before .before .match .rest .0 .1) (c .before .before .before .match .rest .1)) (omega arith) (c .before .before .before .before .before .before .before .before .before .pre .2), c .before .before .before .before .before .loop .inv .1))
 
-add-j : tie.Need-add-j Inv-loop μ-loop
-add-j c = search needs
-
-loop-less : tie.Need-loop-less Inv-loop μ-loop
-loop-less c = search needs
-
 loop-again : tie.Need-loop-again Inv-loop μ-loop
 loop-again c =
     let a = c .before .before .before .before .before .before .args in
@@ -140,37 +131,7 @@ returns c =
 pub first-spec : {M : Type 1} → statement M
 first-spec =
     tie.close
-    (tie.spec
-    Inv-loop
-    μ-loop
-    loop-holds
-    add-k
-    cells-requires
-    outputs-requires
-    mul-spread
-    spread-requires
-    cells-requires-2
-    outputs-requires-2
-    mul-spread-2
-    spread-requires-2
-    cells-requires-3
-    outputs-requires-3
-    mul-spread-3
-    spread-requires-3
-    cells-requires-4
-    outputs-requires-4
-    mul-spread-4
-    spread-requires-4
-    cells-requires-5
-    outputs-requires-5
-    mul-spread-5
-    spread-requires-5
-    cells-requires-6
-    outputs-requires-6
-    mul-spread-6
-    spread-requires-6
-    add-j
-    loop-less
-    loop-again
-    same-length
-    returns)
+    (tie.spec Inv-loop μ-loop loop-holds (λ c. search needs) cells-requires outputs-requires mul-spread spread-requires cells-requires-2
+    outputs-requires-2 mul-spread-2 spread-requires-2 cells-requires-3 outputs-requires-3 mul-spread-3 spread-requires-3 cells-requires-4
+    outputs-requires-4 mul-spread-4 spread-requires-4 cells-requires-5 outputs-requires-5 mul-spread-5 spread-requires-5 cells-requires-6
+    outputs-requires-6 mul-spread-6 spread-requires-6 (λ c. search needs) (λ c. search needs) loop-again same-length returns)

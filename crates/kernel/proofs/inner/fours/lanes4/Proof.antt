@@ -25,9 +25,6 @@ abbrev μ-loop : tie.MeasureT-loop
 loop-holds : tie.Need-loop-holds Inv-loop μ-loop
 loop-holds c = (omega arith, omega arith, omega arith, omega arith, omega arith, λ lent f. (λ x j p lj lp. absurd (omega arith), λ x j p lj lp. absurd (omega arith)))
 
-add-k : tie.Need-add-k Inv-loop μ-loop
-add-k c = search needs
-
 cells-requires : tie.Need-cells-requires Inv-loop μ-loop
 cells-requires c κs = (sized-at 2 (c .match .keys1) (c .before .before .before .before .before .before .before .before .before .pre .0), omega arith, λ e. four-room-at (c .before .before .loop .j) (c .before .before .before .before .before .before .before .before .before .args .r) 2 _ (c .match .keys1) (omega arith) (c .before .before .before .before .before .before .before .before .before .pre .3))
 
@@ -70,12 +67,6 @@ save-requires-6 : tie.Need-save-requires-6 Inv-loop μ-loop
 unfolding isRadix
 save-requires-6 c κs = search needs
 
-add-j : tie.Need-add-j Inv-loop μ-loop
-add-j c = search needs
-
-loop-less : tie.Need-loop-less Inv-loop μ-loop
-loop-less c = search needs
-
 loop-again : tie.Need-loop-again Inv-loop μ-loop
 loop-again c =
     let a = c .before .before .before .before .before .before .before .before .before .args in
@@ -109,18 +100,6 @@ loop-again c =
           ),
     )
 
-same-length : tie.Need-same-length Inv-loop μ-loop
-same-length c = search needs
-
-same-length-2 : tie.Need-same-length-2 Inv-loop μ-loop
-same-length-2 c = search needs
-
-same-length-3 : tie.Need-same-length-3 Inv-loop μ-loop
-same-length-3 c = search needs
-
-same-length-4 : tie.Need-same-length-4 Inv-loop μ-loop
-same-length-4 c = search needs
-
 returns : tie.Need-returns Inv-loop μ-loop
 returns c =
     λ lent f.
@@ -130,28 +109,6 @@ returns c =
 pub lanes4-spec : {M : Type 1} → statement M
 lanes4-spec =
     tie.close
-    (tie.spec
-    Inv-loop
-    μ-loop
-    loop-holds
-    add-k
-    cells-requires
-    save-requires
-    cells-requires-2
-    save-requires-2
-    cells-requires-3
-    save-requires-3
-    cells-requires-4
-    save-requires-4
-    cells-requires-5
-    save-requires-5
-    cells-requires-6
-    save-requires-6
-    add-j
-    loop-less
-    loop-again
-    same-length
-    same-length-2
-    same-length-3
-    same-length-4
-    returns)
+    (tie.spec Inv-loop μ-loop loop-holds (λ c. search needs) cells-requires save-requires cells-requires-2 save-requires-2 cells-requires-3
+    save-requires-3 cells-requires-4 save-requires-4 cells-requires-5 save-requires-5 cells-requires-6 save-requires-6 (λ c. search needs)
+    (λ c. search needs) loop-again (λ c. search needs) (λ c. search needs) (λ c. search needs) (λ c. search needs) returns)

@@ -40,9 +40,6 @@ get-requires-2 c κs = cell-room (c .before .before .before .before .before .arg
 mul-get-2 : tie.Need-mul-get-2 Inv-loop μ-loop
 mul-get-2 c = omega (arith, c .before .before .before .before .before .before .before .pre .2 (c .if1 .left) (c .before .before .before .loop .q) (omega arith) (omega arith))
 
-sub-get : tie.Need-sub-get Inv-loop μ-loop
-sub-get c = search needs
-
 mul-get-3 : tie.Need-mul-get-3 Inv-loop μ-loop
 mul-get-3 c = omega (arith, c .before .before .before .before .before .before .before .pre .2 (c .if1 .left) (c .before .before .before .loop .q) (omega arith) (omega arith))
 
@@ -51,21 +48,6 @@ add-get-2 c = omega (arith, c .before .before .before .before .before .before .b
 
 get-requires-3 : tie.Need-get-requires-3 Inv-loop μ-loop
 get-requires-3 c κs = c .before .before .before .before .before .before .before .pre .2 (c .if1 .left) (c .before .before .before .loop .q) (omega arith) (omega arith)
-
-mul-requires : tie.Need-mul-requires Inv-loop μ-loop
-mul-requires c κs = search needs
-
-mul-c : tie.Need-mul-c Inv-loop μ-loop
-mul-c c = search needs
-
-array-set-from-c : tie.Need-array-set-from-c Inv-loop μ-loop
-array-set-from-c c = search needs
-
-add-q : tie.Need-add-q Inv-loop μ-loop
-add-q c = search needs
-
-loop-less : tie.Need-loop-less Inv-loop μ-loop
-loop-less c = search needs
 
 loop-again : tie.Need-loop-again Inv-loop μ-loop
 loop-again c =
@@ -89,23 +71,5 @@ returns c =
 pub cells-spec : {M : Type 1} → statement M
 cells-spec =
     tie.close
-    (tie.spec
-    Inv-loop
-    μ-loop
-    get-requires
-    loop-holds
-    mul-get
-    add-get
-    get-requires-2
-    mul-get-2
-    sub-get
-    mul-get-3
-    add-get-2
-    get-requires-3
-    mul-requires
-    mul-c
-    array-set-from-c
-    add-q
-    loop-less
-    loop-again
-    returns)
+    (tie.spec Inv-loop μ-loop get-requires loop-holds mul-get add-get get-requires-2 mul-get-2 (λ c. search needs) mul-get-3 add-get-2
+    get-requires-3 (λ c κs. search needs) (λ c. search needs) (λ c. search needs) (λ c. search needs) (λ c. search needs) loop-again returns)

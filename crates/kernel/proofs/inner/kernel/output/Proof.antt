@@ -18,18 +18,9 @@ Inv-loop r p c acc₀ q₀ acc q = (0 < q) × (q ≤ r) × (acc ≡ total untwid
 abbrev μ-loop : tie.MeasureT-loop
 μ-loop r p c acc₀ q₀ acc q = r - q
 
-array-copy-out-acc : tie.Need-array-copy-out-acc Inv-loop μ-loop
-array-copy-out-acc c = search needs
-
 loop-holds : tie.Need-loop-holds Inv-loop μ-loop
 unfolding total
 loop-holds c = (omega arith, omega arith, refl)
-
-mul-z : tie.Need-mul-z Inv-loop μ-loop
-mul-z c = search needs
-
-array-copy-out-z : tie.Need-array-copy-out-z Inv-loop μ-loop
-array-copy-out-z c = search needs
 
 mul-kernel-turn : tie.Need-mul-kernel-turn Inv-loop μ-loop
 mul-kernel-turn c =
@@ -37,25 +28,10 @@ mul-kernel-turn c =
     let q : c .before .before .loop .q ≤ 8 = omega arith in
     omega (arith, mul-le-mul p q)
 
-rem-kernel-turn : tie.Need-rem-kernel-turn Inv-loop μ-loop
-rem-kernel-turn c = search needs
-
 kernel-turn-requires : tie.Need-kernel-turn-requires Inv-loop μ-loop
 kernel-turn-requires c κs =
     let a = c .before .before .before .before in
     record { radix = a .pre .0; below = mod-lt (a .args .p * c .before .before .loop .q) {m = a .args .r} (omega arith) }
-
-turned-requires : tie.Need-turned-requires Inv-loop μ-loop
-turned-requires c κs = search needs
-
-add-requires : tie.Need-add-requires Inv-loop μ-loop
-add-requires c κs = search needs
-
-add-q : tie.Need-add-q Inv-loop μ-loop
-add-q c = search needs
-
-loop-less : tie.Need-loop-less Inv-loop μ-loop
-loop-less c = search needs
 
 loop-again : tie.Need-loop-again Inv-loop μ-loop
 loop-again c =
@@ -72,19 +48,5 @@ returns c =
 pub output-spec : {M : Type 1} → statement M
 output-spec =
     tie.close
-    (tie.spec
-    Inv-loop
-    μ-loop
-    array-copy-out-acc
-    loop-holds
-    mul-z
-    array-copy-out-z
-    mul-kernel-turn
-    rem-kernel-turn
-    kernel-turn-requires
-    turned-requires
-    add-requires
-    add-q
-    loop-less
-    loop-again
-    returns)
+    (tie.spec Inv-loop μ-loop (λ c. search needs) loop-holds (λ c. search needs) (λ c. search needs) mul-kernel-turn (λ c. search needs)
+    kernel-turn-requires (λ c κs. search needs) (λ c κs. search needs) (λ c. search needs) (λ c. search needs) loop-again returns)

@@ -25,12 +25,6 @@ loop-holds c =
     let a = c .before .before .before .args in
     (omega arith, refl, λ v held done. rowed-none (a .s) (a .r) (a .i) (a .n) v (a .dst .now) done)
 
-mul-piece : tie.Need-mul-piece Inv-loop μ-loop
-mul-piece c = search needs
-
-add-piece : tie.Need-add-piece Inv-loop μ-loop
-add-piece c = search needs
-
 mul-piece-2 : tie.Need-mul-piece-2 Inv-loop μ-loop
 mul-piece-2 c = omega (arith, row-room (c .before .before .before .before .before .before .args .i) (c .before .before .before .before .before .before .args .n) (c .before .before .before .before .before .before .args .s) (c .before .before .before .before .before .before .args .r) (length (c .before .before .before .before .before .before .args .dst .now)) (c .before .before .loop .p) (c .before .before .before .before .before .before .pre .0) (omega arith))
 
@@ -39,12 +33,6 @@ add-piece-2 c = omega (arith, row-room (c .before .before .before .before .befor
 
 piece-requires : tie.Need-piece-requires Inv-loop μ-loop
 piece-requires c κs = (c .before .before .before .before .before .before .pre .2, omega arith, omega arith, omega arith, omega arith, omega (arith, row-room (c .before .before .before .before .before .before .args .i) (c .before .before .before .before .before .before .args .n) (c .before .before .before .before .before .before .args .s) (c .before .before .before .before .before .before .args .r) (length (c .before .before .before .before .before .before .args .dst .now)) (c .before .before .loop .p) (c .before .before .before .before .before .before .pre .0) (omega arith), c .before .before .loop .inv .1))
-
-add-p : tie.Need-add-p Inv-loop μ-loop
-add-p c = search needs
-
-loop-less : tie.Need-loop-less Inv-loop μ-loop
-loop-less c = search needs
 
 loop-again : tie.Need-loop-again Inv-loop μ-loop
 unfolding index
@@ -71,17 +59,5 @@ returns c =
 pub rows-spec : {M : Type 1} → statement M
 rows-spec =
     tie.close
-    (tie.spec
-    Inv-loop
-    μ-loop
-    loop-holds
-    mul-piece
-    add-piece
-    mul-piece-2
-    add-piece-2
-    piece-requires
-    add-p
-    loop-less
-    loop-again
-    same-length
-    returns)
+    (tie.spec Inv-loop μ-loop loop-holds (λ c. search needs) (λ c. search needs) mul-piece-2 add-piece-2 piece-requires (λ c. search needs)
+    (λ c. search needs) loop-again same-length returns)

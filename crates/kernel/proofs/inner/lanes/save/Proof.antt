@@ -25,33 +25,6 @@ abbrev μ-loop2 : tie.MeasureT-loop2
 loop-holds : tie.Need-loop-holds Inv-loop μ-loop Inv-loop2 μ-loop2
 loop-holds c = (omega arith, refl, every-none _ 0 _ _ _ (omega arith))
 
-output-requires : tie.Need-output-requires Inv-loop μ-loop Inv-loop2 μ-loop2
-output-requires c κs = search needs
-
-mul-k : tie.Need-mul-k Inv-loop μ-loop Inv-loop2 μ-loop2
-mul-k c = search needs
-
-add-k : tie.Need-add-k Inv-loop μ-loop Inv-loop2 μ-loop2
-add-k c = search needs
-
-mul-re : tie.Need-mul-re Inv-loop μ-loop Inv-loop2 μ-loop2
-mul-re c = search needs
-
-slice-write-re : tie.Need-slice-write-re Inv-loop μ-loop Inv-loop2 μ-loop2
-slice-write-re c = search needs
-
-mul-im : tie.Need-mul-im Inv-loop μ-loop Inv-loop2 μ-loop2
-mul-im c = search needs
-
-slice-write-im : tie.Need-slice-write-im Inv-loop μ-loop Inv-loop2 μ-loop2
-slice-write-im c = search needs
-
-add-p : tie.Need-add-p Inv-loop μ-loop Inv-loop2 μ-loop2
-add-p c = search needs
-
-loop-less : tie.Need-loop-less Inv-loop μ-loop Inv-loop2 μ-loop2
-loop-less c = search needs
-
 loop-again : tie.Need-loop-again Inv-loop μ-loop Inv-loop2 μ-loop2
 loop-again c =
     let l = c .before .before .loop in (
@@ -62,33 +35,6 @@ loop-again c =
 
 loop2-holds : tie.Need-loop2-holds Inv-loop μ-loop Inv-loop2 μ-loop2
 loop2-holds c = (omega arith, refl, every-none _ 1 _ _ _ (omega arith))
-
-output-requires-2 : tie.Need-output-requires-2 Inv-loop μ-loop Inv-loop2 μ-loop2
-output-requires-2 c κs = search needs
-
-mul-k-2 : tie.Need-mul-k-2 Inv-loop μ-loop Inv-loop2 μ-loop2
-mul-k-2 c = search needs
-
-add-k-2 : tie.Need-add-k-2 Inv-loop μ-loop Inv-loop2 μ-loop2
-add-k-2 c = search needs
-
-mul-re-2 : tie.Need-mul-re-2 Inv-loop μ-loop Inv-loop2 μ-loop2
-mul-re-2 c = search needs
-
-slice-write-re-2 : tie.Need-slice-write-re-2 Inv-loop μ-loop Inv-loop2 μ-loop2
-slice-write-re-2 c = search needs
-
-mul-im-2 : tie.Need-mul-im-2 Inv-loop μ-loop Inv-loop2 μ-loop2
-mul-im-2 c = search needs
-
-slice-write-im-2 : tie.Need-slice-write-im-2 Inv-loop μ-loop Inv-loop2 μ-loop2
-slice-write-im-2 c = search needs
-
-add-q : tie.Need-add-q Inv-loop μ-loop Inv-loop2 μ-loop2
-add-q c = search needs
-
-loop2-less : tie.Need-loop2-less Inv-loop μ-loop Inv-loop2 μ-loop2
-loop2-less c = search needs
 
 loop2-again : tie.Need-loop2-again Inv-loop μ-loop Inv-loop2 μ-loop2
 loop2-again c =
@@ -115,33 +61,7 @@ returns c =
 pub save-spec : {M : Type 1} → statement M
 save-spec =
     tie.close
-    (tie.spec
-    Inv-loop
-    μ-loop
-    Inv-loop2
-    μ-loop2
-    loop-holds
-    output-requires
-    mul-k
-    add-k
-    mul-re
-    slice-write-re
-    mul-im
-    slice-write-im
-    add-p
-    loop-less
-    loop-again
-    loop2-holds
-    output-requires-2
-    mul-k-2
-    add-k-2
-    mul-re-2
-    slice-write-re-2
-    mul-im-2
-    slice-write-im-2
-    add-q
-    loop2-less
-    loop2-again
-    same-length
-    same-length-2
-    returns)
+    (tie.spec Inv-loop μ-loop Inv-loop2 μ-loop2 loop-holds (λ c κs. search needs) (λ c. search needs) (λ c. search needs)
+    (λ c. search needs) (λ c. search needs) (λ c. search needs) (λ c. search needs) (λ c. search needs) (λ c. search needs) loop-again
+    loop2-holds (λ c κs. search needs) (λ c. search needs) (λ c. search needs) (λ c. search needs) (λ c. search needs) (λ c. search needs)
+    (λ c. search needs) (λ c. search needs) (λ c. search needs) loop2-again same-length same-length-2 returns)

@@ -21,9 +21,6 @@ sub-batch c =
     let p = c .before .before .before .before .before .before .pre in
     omega (arith, storing-column (p .0) (p .1) (c .before .before .loop .inv))
 
-sub-batch-2 : tie.Need-sub-batch-2 Inv-loop μ-loop
-sub-batch-2 c = search needs
-
 batch-requires : tie.Need-batch-requires Inv-loop μ-loop
 batch-requires c κs =
     let p = c .before .before .before .before .before .before .pre in
@@ -33,9 +30,6 @@ add-rows : tie.Need-add-rows Inv-loop μ-loop
 add-rows c =
     let p = c .before .before .before .before .before .before .before .before .before .pre in
     omega (arith, storing-room (p .0) (p .1) (c .before .before .before .before .before .loop .inv) (c .before .before .before .before .loop-test .taken) .0)
-
-add-rows-2 : tie.Need-add-rows-2 Inv-loop μ-loop
-add-rows-2 c = search needs
 
 rows-requires : tie.Need-rows-requires Inv-loop μ-loop
 rows-requires c κs =
@@ -84,19 +78,5 @@ returns c =
 pub store-spec : {M : Type 1} → statement M
 store-spec =
     tie.close
-    (tie.spec
-    Inv-loop
-    μ-loop
-    loop-holds
-    sub-batch
-    sub-batch-2
-    batch-requires
-    add-rows
-    add-rows-2
-    rows-requires
-    onward-requires
-    add-j
-    loop-less
-    loop-again
-    same-length
-    returns)
+    (tie.spec Inv-loop μ-loop loop-holds sub-batch (λ c. search needs) batch-requires add-rows (λ c. search needs) rows-requires
+    onward-requires add-j loop-less loop-again same-length returns)

@@ -23,17 +23,8 @@ returns c = λ e. absurd (true≢false (sym (c .if1 .taken) ∙ e))
 loop-holds : tie.Need-loop-holds Inv-loop μ-loop
 loop-holds c = (omega arith, refl, λ j q lj l lq. absurd (omega arith))
 
-add-fetch-one : tie.Need-add-fetch-one Inv-loop μ-loop
-add-fetch-one c = search needs
-
 fetch-one-requires : tie.Need-fetch-one-requires Inv-loop μ-loop
 fetch-one-requires c κs = (rw (c .before .before .loop .inv .1) (c .before .before .before .before .before .before .pre .0), omega arith, omega arith, omega arith, omega arith)
-
-add-j : tie.Need-add-j Inv-loop μ-loop
-add-j c = search needs
-
-loop-less : tie.Need-loop-less Inv-loop μ-loop
-loop-less c = search needs
 
 loop-again : tie.Need-loop-again Inv-loop μ-loop
 loop-again c =
@@ -51,15 +42,5 @@ returns-2 c = λ e j q lj l lq. c .before .loop .inv .2 j q (omega arith) l lq
 pub fetch-spec : {M : Type 1} → statement M
 fetch-spec =
     tie.close
-    (tie.spec
-    Inv-loop
-    μ-loop
-    returns
-    loop-holds
-    add-fetch-one
-    fetch-one-requires
-    add-j
-    loop-less
-    loop-again
-    same-length
-    returns-2)
+    (tie.spec Inv-loop μ-loop returns loop-holds (λ c. search needs) fetch-one-requires (λ c. search needs) (λ c. search needs) loop-again
+    same-length returns-2)

@@ -10,29 +10,17 @@ use Rattle.kernel.proofs.Widths.{place-lt, place-in, place-past, small-
 use Rattle.kernel.proofs.inner.lent.fetch_one.Statement.{statement}
 use Rattle.kernel.proofs.inner.lent.fetch_one.Tie as tie
 
-sub-d : tie.Need-sub-d
-sub-d c = search needs
-
-div-if1 : tie.Need-div-if1
-div-if1 c = search needs
-
 mul-if1 : tie.Need-mul-if1
 mul-if1 c = omega (arith, div-mul-le-self (c .before .before .args .m) (c .before .before .args .w), c .before .before .pre .0 .small)
 
 mul-gather : tie.Need-mul-gather
 mul-gather c = omega (arith, small-lane (c .before .before .before .before .args .j) (c .before .before .before .before .args .r) (c .before .before .before .before .pre .4) (c .before .before .before .before .pre .0 .few))
 
-div-gather : tie.Need-div-gather
-div-gather c = search needs
-
 mul-gather-2 : tie.Need-mul-gather-2
 mul-gather-2 c = omega (arith, small-width (c .before .before .before .before .args .w) (c .before .before .before .before .args .m) (c .before .before .before .before .args .r) (c .before .before .before .before .args .i) (c .before .before .before .before .pre .2) (c .before .before .before .before .pre .0 .small) (c .before .before .before .before .pre .0 .few) (c .before .before .before .before .pre .3))
 
 mul-gather-3 : tie.Need-mul-gather-3
 mul-gather-3 c = omega (arith, small-block (c .before .before .before .before .args .w) (c .before .before .before .before .args .m) (c .before .before .before .before .args .r) (c .before .before .before .before .args .i) (c .before .before .before .before .pre .2) (c .before .before .before .before .pre .0 .small) (c .before .before .before .before .pre .0 .few) (c .before .before .before .before .pre .3))
-
-rem-gather : tie.Need-rem-gather
-rem-gather c = search needs
 
 add-gather : tie.Need-add-gather
 add-gather c = omega (arith, small-block (c .before .before .before .before .args .w) (c .before .before .before .before .args .m) (c .before .before .before .before .args .r) (c .before .before .before .before .args .i) (c .before .before .before .before .pre .2) (c .before .before .before .before .pre .0 .small) (c .before .before .before .before .pre .0 .few) (c .before .before .before .before .pre .3), mod-lt (c .before .before .before .before .args .i) (c .before .before .before .before .pre .1), c .before .before .before .before .pre .2)
@@ -63,16 +51,10 @@ gather-requires-2 c κs =
           omega (arith, below, place-past (a .m) (a .r) (a .w) (a .i) u (c .before .if1 .left), k .lent),
     )
 
-same-length : tie.Need-same-length
-same-length c = search needs
-
 returns : tie.Need-returns
 returns c =
     let a = c .before .before .before .before .before .before .before .args in
     wrote-as _ _ _ _ (λ u l. ap (cell (a .tw .now)) (sym (place-in (a .m) (a .r) (a .w) (a .i) u (c .before .before .before .before .if1 .taken)))) (c .before .before .gather .ensures)
-
-same-length-2 : tie.Need-same-length-2
-same-length-2 c = search needs
 
 returns-2 : tie.Need-returns-2
 returns-2 c =
@@ -82,21 +64,5 @@ returns-2 c =
 pub fetch-one-spec : {M : Type 1} → statement M
 fetch-one-spec =
     tie.close
-    (tie.spec
-    sub-d
-    div-if1
-    mul-if1
-    mul-gather
-    div-gather
-    mul-gather-2
-    mul-gather-3
-    rem-gather
-    add-gather
-    gather-requires
-    mul-gather-4
-    mul-gather-5
-    gather-requires-2
-    same-length
-    returns
-    same-length-2
-    returns-2)
+    (tie.spec (λ c. search needs) (λ c. search needs) mul-if1 mul-gather (λ c. search needs) mul-gather-2 mul-gather-3 (λ c. search needs)
+    add-gather gather-requires mul-gather-4 mul-gather-5 gather-requires-2 (λ c. search needs) returns (λ c. search needs) returns-2)

@@ -27,12 +27,6 @@ loop-holds c =
     let p = c .before .before .before .pre in
     (omega arith, refl, refl, refl, refl, refl, refl, placed-first (a .even) (a .s) (a .r) (a .s) (p .4) (p .2 .stride), λ i p li lp. absurd (omega arith))
 
-sub-least : tie.Need-sub-least Inv-loop μ-loop
-sub-least c = search needs
-
-least-requires : tie.Need-least-requires Inv-loop μ-loop
-least-requires c κs = search needs
-
 sub-from : tie.Need-sub-from Inv-loop μ-loop
 sub-from c = omega (arith, c .before .before .before .before .before .before .pre .0 .some)
 
@@ -66,9 +60,6 @@ part-lanes4-start c =
     let l : c .before .before .loop .i ≤ a .m = omega (arith, c .before .before .before .before .before .before .pre .5) in
     omega (arith, past-room (c .before .before .loop .i) (a .m) (a .r) _ l (c .before .before .before .before .before .before .pre .1))
 
-part-lanes4-end : tie.Need-part-lanes4-end Inv-loop μ-loop
-part-lanes4-end c = search needs
-
 slice-aggregate-lanes4 : tie.Need-slice-aggregate-lanes4 Inv-loop μ-loop
 slice-aggregate-lanes4 c = sym (c .before .before .before .before .loop .inv .2)
 
@@ -97,17 +88,11 @@ slice-aggregate-pick c = sym (c .before .before .before .before .before .lanes4 
 slice-aggregate-pick-2 : tie.Need-slice-aggregate-pick-2 Inv-loop μ-loop
 slice-aggregate-pick-2 c = sym (c .before .before .before .before .before .before .lanes4 .kept .1 .1 .1 .1 .0 ∙ c .before .before .before .before .before .before .before .before .before .before .before .before .before .before .loop .inv .4)
 
-pick-requires : tie.Need-pick-requires Inv-loop μ-loop
-pick-requires c κs = search needs
-
 slice-aggregate-pick-3 : tie.Need-slice-aggregate-pick-3 Inv-loop μ-loop
 slice-aggregate-pick-3 c = sym (c .before .before .before .before .before .before .before .before .lanes4 .kept .1 .1 .1 .0 ∙ c .before .before .before .before .before .before .before .before .before .before .before .before .before .before .before .before .loop .inv .3)
 
 slice-aggregate-pick-4 : tie.Need-slice-aggregate-pick-4 Inv-loop μ-loop
 slice-aggregate-pick-4 c = sym (c .before .before .before .before .before .before .before .before .before .lanes4 .kept .1 .1 .1 .1 .1 .0 ∙ c .before .before .before .before .before .before .before .before .before .before .before .before .before .before .before .before .before .loop .inv .5)
-
-pick-requires-2 : tie.Need-pick-requires-2 Inv-loop μ-loop
-pick-requires-2 c κs = search needs
 
 store4-requires : tie.Need-store4-requires Inv-loop μ-loop
 store4-requires c κs =
@@ -172,33 +157,7 @@ returns c =
 pub by-fours-spec : {M : Type 1} → statement M
 by-fours-spec =
     tie.close
-    (tie.spec
-    Inv-loop
-    μ-loop
-    loop-holds
-    sub-least
-    least-requires
-    sub-from
-    mul-from
-    mul-from-2
-    mul-lanes4
-    sub-lanes4
-    part-lanes4-start
-    part-lanes4-end
-    slice-aggregate-lanes4
-    slice-aggregate-lanes4-2
-    slice-aggregate-lanes4-3
-    slice-aggregate-lanes4-4
-    lanes4-requires
-    slice-aggregate-pick
-    slice-aggregate-pick-2
-    pick-requires
-    slice-aggregate-pick-3
-    slice-aggregate-pick-4
-    pick-requires-2
-    store4-requires
-    add-i
-    loop-less
-    loop-again
-    same-length
-    returns)
+    (tie.spec Inv-loop μ-loop loop-holds (λ c. search needs) (λ c κs. search needs) sub-from mul-from mul-from-2 mul-lanes4 sub-lanes4
+    part-lanes4-start (λ c. search needs) slice-aggregate-lanes4 slice-aggregate-lanes4-2 slice-aggregate-lanes4-3 slice-aggregate-lanes4-4
+    lanes4-requires slice-aggregate-pick slice-aggregate-pick-2 (λ c κs. search needs) slice-aggregate-pick-3 slice-aggregate-pick-4
+    (λ c κs. search needs) store4-requires add-i loop-less loop-again same-length returns)

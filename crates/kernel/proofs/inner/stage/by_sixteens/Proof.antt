@@ -22,19 +22,10 @@ Inv-loop src tw dst₀ end m s r w even t₀ ra₀ ia₀ rb₀ ib₀ here at₀ 
 abbrev μ-loop : tie.MeasureT-loop
 μ-loop src tw dst₀ end m s r w even t₀ ra₀ ia₀ rb₀ ib₀ here at₀ i₀ dst t ra ia rb ib at i = m - i
 
-stand-requires : tie.Need-stand-requires Inv-loop μ-loop
-stand-requires c κs = search needs
-
 loop-holds : tie.Need-loop-holds Inv-loop μ-loop
 loop-holds c =
     let p = c .before .before .before .before .pre in
     (p .7, refl, refl, refl, refl, refl, refl, p .9, p .10, p .8, λ done. done)
-
-sub-least : tie.Need-sub-least Inv-loop μ-loop
-sub-least c = search needs
-
-least-requires : tie.Need-least-requires Inv-loop μ-loop
-least-requires c κs = search needs
 
 slice-aggregate-fetch : tie.Need-slice-aggregate-fetch Inv-loop μ-loop
 slice-aggregate-fetch c = sym (c .before .before .before .loop .inv .2)
@@ -95,17 +86,11 @@ slice-aggregate-pick c = sym (c .before .before .before .before .before .lanes .
 slice-aggregate-pick-2 : tie.Need-slice-aggregate-pick-2 Inv-loop μ-loop
 slice-aggregate-pick-2 c = sym (c .before .before .before .before .before .before .lanes .kept .1 .1 .1 .1 .0 ∙ c .before .before .before .before .before .before .before .before .before .before .before .before .before .before .before .before .before .before .loop .inv .5)
 
-pick-requires : tie.Need-pick-requires Inv-loop μ-loop
-pick-requires c κs = search needs
-
 slice-aggregate-pick-3 : tie.Need-slice-aggregate-pick-3 Inv-loop μ-loop
 slice-aggregate-pick-3 c = sym (c .before .before .before .before .before .before .before .before .lanes .kept .1 .1 .1 .0 ∙ c .before .before .before .before .before .before .before .before .before .before .before .before .before .before .before .before .before .before .before .before .loop .inv .4)
 
 slice-aggregate-pick-4 : tie.Need-slice-aggregate-pick-4 Inv-loop μ-loop
 slice-aggregate-pick-4 c = sym (c .before .before .before .before .before .before .before .before .before .lanes .kept .1 .1 .1 .1 .1 .0 ∙ c .before .before .before .before .before .before .before .before .before .before .before .before .before .before .before .before .before .before .before .before .before .loop .inv .6)
-
-pick-requires-2 : tie.Need-pick-requires-2 Inv-loop μ-loop
-pick-requires-2 c κs = search needs
 
 store-requires : tie.Need-store-requires Inv-loop μ-loop
 store-requires c κs =
@@ -171,34 +156,7 @@ returns c =
 pub by-sixteens-spec : {M : Type 1} → statement M
 by-sixteens-spec =
     tie.close
-    (tie.spec
-    Inv-loop
-    μ-loop
-    stand-requires
-    loop-holds
-    sub-least
-    least-requires
-    slice-aggregate-fetch
-    fetch-requires
-    sub-from
-    mul-from
-    mul-from-2
-    slice-aggregate-lent
-    lent-requires
-    slice-aggregate-lanes
-    slice-aggregate-lanes-2
-    slice-aggregate-lanes-3
-    slice-aggregate-lanes-4
-    lanes-requires
-    slice-aggregate-pick
-    slice-aggregate-pick-2
-    pick-requires
-    slice-aggregate-pick-3
-    slice-aggregate-pick-4
-    pick-requires-2
-    store-requires
-    add-i
-    loop-less
-    loop-again
-    same-length
-    returns)
+    (tie.spec Inv-loop μ-loop (λ c κs. search needs) loop-holds (λ c. search needs) (λ c κs. search needs) slice-aggregate-fetch
+    fetch-requires sub-from mul-from mul-from-2 slice-aggregate-lent lent-requires slice-aggregate-lanes slice-aggregate-lanes-2
+    slice-aggregate-lanes-3 slice-aggregate-lanes-4 lanes-requires slice-aggregate-pick slice-aggregate-pick-2 (λ c κs. search needs)
+    slice-aggregate-pick-3 slice-aggregate-pick-4 (λ c κs. search needs) store-requires add-i loop-less loop-again same-length returns)

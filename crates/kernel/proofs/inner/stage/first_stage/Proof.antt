@@ -19,12 +19,6 @@ abbrev μ-loop : tie.MeasureT-loop
 loop-holds : tie.Need-loop-holds Inv-loop μ-loop
 loop-holds c = (omega arith, refl, λ lent i p li lp. absurd (omega arith))
 
-sub-least : tie.Need-sub-least Inv-loop μ-loop
-sub-least c = search needs
-
-least-requires : tie.Need-least-requires Inv-loop μ-loop
-least-requires c κs = search needs
-
 first-requires : tie.Need-first-requires Inv-loop μ-loop
 first-requires c κs = (c .before .before .before .before .before .before .before .pre .0, omega (arith, c .before .least .ensures .0), omega (arith, c .before .before .before .before .before .before .before .pre .1, c .before .before .before .loop .inv .1))
 
@@ -52,15 +46,5 @@ returns c =
 pub first-stage-spec : {M : Type 1} → statement M
 first-stage-spec =
     tie.close
-    (tie.spec
-    Inv-loop
-    μ-loop
-    loop-holds
-    sub-least
-    least-requires
-    first-requires
-    add-i
-    loop-less
-    loop-again
-    same-length
+    (tie.spec Inv-loop μ-loop loop-holds (λ c. search needs) (λ c κs. search needs) first-requires add-i loop-less loop-again same-length
     returns)

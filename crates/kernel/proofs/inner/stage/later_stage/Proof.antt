@@ -11,12 +11,6 @@ use Rattle.kernel.proofs.Batches.{even-fours, placed-first, whole-fours
 use Rattle.kernel.proofs.inner.stage.later_stage.Statement.{statement}
 use Rattle.kernel.proofs.inner.stage.later_stage.Tie as tie
 
-evenly-requires : tie.Need-evenly-requires
-evenly-requires c κs = search needs
-
-in-fours-requires : tie.Need-in-fours-requires
-in-fours-requires c κs = search needs
-
 by-fours-requires : tie.Need-by-fours-requires
 by-fours-requires c κs =
     let s = c .before .before .before .before .before .before .before in
@@ -73,12 +67,5 @@ returns-2 c = λ i p li lp. in-lanes (c .before) .2 i p (omega (arith, c .if2 .l
 pub later-stage-spec : {M : Type 1} → statement M
 later-stage-spec =
     tie.close
-    (tie.spec
-    evenly-requires
-    in-fours-requires
-    by-fours-requires
-    by-sixteens-requires
-    same-length
-    returns
-    same-length-2
+    (tie.spec (λ c κs. search needs) (λ c κs. search needs) by-fours-requires by-sixteens-requires same-length returns same-length-2
     returns-2)

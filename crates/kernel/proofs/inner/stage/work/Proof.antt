@@ -13,9 +13,6 @@ element-copy-out-r c =
     let a = c .before .before .before in
     omega (arith, a .pre .known, plan-order (a .args .t1) (a .pre .planned) .few)
 
-cast-r : tie.Need-cast-r
-cast-r c = search needs
-
 div-m : tie.Need-div-m
 div-m c =
     let a = c .before .before .before .before in
@@ -25,9 +22,6 @@ first-stage-requires : tie.Need-first-stage-requires
 first-stage-requires c κs =
     let a = c .before .before .before .before .before .before in
     (work-sized (a .args .t1) (a .args .j) (a .args .w) _ _ _ (a .pre), work-room (a .args .t1) (a .args .j) (a .args .w) _ _ _ (a .pre))
-
-stride-requires : tie.Need-stride-requires
-stride-requires c κs = search needs
 
 later-stage-requires : tie.Need-later-stage-requires
 later-stage-requires c κs =
@@ -39,17 +33,11 @@ later-stage-requires c κs =
       rw (c .stride .ensures) (work-blocks (a .args .t1) (a .args .j) (a .args .w) _ _ _ (a .pre)),
     )
 
-same-length : tie.Need-same-length
-same-length c = search needs
-
 returns : tie.Need-returns
 returns c =
     let a = c .before .before .before .before .before .before .before .before .before in
     let made = c .before .before .first-stage in
     first-made (a .args .t1) (a .args .j) (a .args .w) _ _ _ (a .pre) (a .args .src .now) (a .args .tw .now) _ refl (made .kept .1 .1 .0) (c .before .before .before .before .if1 .taken) (made .ensures)
-
-same-length-2 : tie.Need-same-length-2
-same-length-2 c = search needs
 
 returns-2 : tie.Need-returns-2
 returns-2 c =
@@ -61,14 +49,5 @@ returns-2 c =
 pub work-spec : {M : Type 1} → statement M
 work-spec =
     tie.close
-    (tie.spec
-    element-copy-out-r
-    cast-r
-    div-m
-    first-stage-requires
-    stride-requires
-    later-stage-requires
-    same-length
-    returns
-    same-length-2
-    returns-2)
+    (tie.spec element-copy-out-r (λ c. search needs) div-m first-stage-requires (λ c κs. search needs) later-stage-requires
+    (λ c. search needs) returns (λ c. search needs) returns-2)

@@ -7,26 +7,14 @@ use borrow.Author.Needs.{needs}
 use Rattle.plan.proofs.inner.halving.half_list.Statement.{statement}
 use Rattle.plan.proofs.inner.halving.half_list.Tie as tie
 
-which-requires : tie.Need-which-requires
-which-requires c κs = search needs
-
-enum-known-how : tie.Need-enum-known-how
-enum-known-how c = search needs
-
 without-requires : tie.Need-without-requires
 without-requires c κs = (goes-within _ _ (sym (c .before .before .before .which .ensures) ∙ c .before .how .given .1), c .before .before .before .before .before .pre)
-
-enum-known-how-2 : tie.Need-enum-known-how-2
-enum-known-how-2 c = search needs
 
 changed-requires : tie.Need-changed-requires
 changed-requires c κs = (becomes-within _ _ _ (sym (c .before .before .before .which .ensures) ∙ c .before .how2 .given .1), c .before .before .before .before .before .pre)
 
 enum-told : tie.Need-enum-told
 enum-told c = search needs
-
-copied-requires : tie.Need-copied-requires
-copied-requires c κs = search needs
 
 returns : tie.Need-returns
 returns c = c .without .ensures ∙ ap listed (sym (half-by _ _ (sym (c .before .before .before .before .which .ensures) ∙ c .before .before .how .given .1)))
@@ -42,14 +30,5 @@ returns-3 c =
 pub half-list-spec : {M : Type 1} → statement M
 half-list-spec =
     tie.close
-    (tie.spec
-    which-requires
-    enum-known-how
-    without-requires
-    enum-known-how-2
-    changed-requires
-    enum-told
-    copied-requires
-    returns
-    returns-2
-    returns-3)
+    (tie.spec (λ c κs. search needs) (λ c. search needs) without-requires (λ c. search needs) changed-requires enum-told
+    (λ c κs. search needs) returns returns-2 returns-3)

@@ -5,22 +5,13 @@ use borrow.Author.Tests.{lt-ltb, le-ltb}
 use Rattle.plan.proofs.inner.halving.which.Statement.{statement}
 use Rattle.plan.proofs.inner.halving.which.Tie as tie
 
-index-of-requires : tie.Need-index-of-requires
-index-of-requires c κs = search needs
-
 returns : tie.Need-returns
 unfolding halving
 returns c = simp (lt-ltb _ _ (rw (c .before .index-of .ensures) at (c .if1 .taken)), c .before .index-of .ensures)
 
-index-of-requires-2 : tie.Need-index-of-requires-2
-index-of-requires-2 c κs = search needs
-
 returns-2 : tie.Need-returns-2
 unfolding halving
 returns-2 c = simp (le-ltb _ _ (rw (c .before .before .before .index-of .ensures) at (c .before .before .if1 .left)), lt-ltb _ _ (rw (c .before .index-of2 .ensures) at (c .if2 .taken)), c .before .index-of2 .ensures)
-
-index-of-requires-3 : tie.Need-index-of-requires-3
-index-of-requires-3 c κs = search needs
 
 returns-3 : tie.Need-returns-3
 unfolding halving
@@ -33,11 +24,4 @@ returns-4 c = simp (le-ltb _ _ (rw (c .before .before .before .before .before .i
 pub which-spec : {M : Type 1} → statement M
 which-spec =
     tie.close
-    (tie.spec
-    index-of-requires
-    returns
-    index-of-requires-2
-    returns-2
-    index-of-requires-3
-    returns-3
-    returns-4)
+    (tie.spec (λ c κs. search needs) returns (λ c κs. search needs) returns-2 (λ c κs. search needs) returns-3 returns-4)

@@ -18,24 +18,6 @@ slice-aggregate-copied c = sym (length-take-le _ _ (search needs))
 copied-requires : tie.Need-copied-requires
 copied-requires c κs = omega (arith, length-take-le (c .before .before .args .at) (c .before .before .args .list .now) (search needs))
 
-add-next : tie.Need-add-next
-add-next c = search needs
-
-sub-copied : tie.Need-sub-copied
-sub-copied c = search needs
-
-part-copied-start : tie.Need-part-copied-start
-part-copied-start c = search needs
-
-part-copied-end : tie.Need-part-copied-end
-part-copied-end c = search needs
-
-copied-requires-2 : tie.Need-copied-requires-2
-copied-requires-2 c κs = search needs
-
-sub-t13 : tie.Need-sub-t13
-sub-t13 c = search needs
-
 returns : tie.Need-returns
 returns c =
     let a = c .before .before .before .before .before .args in
@@ -54,13 +36,5 @@ returns c =
 pub without-spec : {M : Type 1} → statement M
 without-spec =
     tie.close
-    (tie.spec
-    slice-aggregate-copied
-    copied-requires
-    add-next
-    sub-copied
-    part-copied-start
-    part-copied-end
-    copied-requires-2
-    sub-t13
-    returns)
+    (tie.spec slice-aggregate-copied copied-requires (λ c. search needs) (λ c. search needs) (λ c. search needs) (λ c. search needs)
+    (λ c κs. search needs) (λ c. search needs) returns)

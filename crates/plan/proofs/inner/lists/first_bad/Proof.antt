@@ -15,21 +15,6 @@ Inv-loop list i₀ i = (i ≤ length list) × (firstThat (λ (b : ℕ). not (isR
 abbrev μ-loop : tie.MeasureT-loop
 μ-loop list i₀ i = length list - i
 
-loop-holds : tie.Need-loop-holds Inv-loop μ-loop
-loop-holds c = search needs
-
-shared-slice-read-is-radix : tie.Need-shared-slice-read-is-radix Inv-loop μ-loop
-shared-slice-read-is-radix c = search needs
-
-is-radix-requires : tie.Need-is-radix-requires Inv-loop μ-loop
-is-radix-requires c κs = search needs
-
-add-i : tie.Need-add-i Inv-loop μ-loop
-add-i c = search needs
-
-loop-less : tie.Need-loop-less Inv-loop μ-loop
-loop-less c = search needs
-
 loop-again : tie.Need-loop-again Inv-loop μ-loop
 loop-again c = (search needs, first-skip (λ (b : ℕ). not (isRadix b)) (c .before .before .before .before .before .before .args .list .now) (c .before .before .before .before .loop .i) (search needs) (ap not (sym (c .before .is-radix .ensures)) ∙ c .if2 .left) (c .before .before .before .before .loop .inv .1))
 
@@ -44,14 +29,5 @@ returns-2 c = sym (first-here (λ (b : ℕ). not (isRadix b)) (c .before .before
 pub first-bad-spec : {M : Type 1} → statement M
 first-bad-spec =
     tie.close
-    (tie.spec
-    Inv-loop
-    μ-loop
-    loop-holds
-    shared-slice-read-is-radix
-    is-radix-requires
-    add-i
-    loop-less
-    loop-again
-    returns
-    returns-2)
+    (tie.spec Inv-loop μ-loop (λ c. search needs) (λ c. search needs) (λ c κs. search needs) (λ c. search needs) (λ c. search needs)
+    loop-again returns returns-2)

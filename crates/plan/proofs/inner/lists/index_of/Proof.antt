@@ -17,18 +17,6 @@ Inv-loop list v i₀ i = (i ≤ length list) × (firstThat (λ (b : ℕ). eqb b 
 abbrev μ-loop : tie.MeasureT-loop
 μ-loop list v i₀ i = length list - i
 
-loop-holds : tie.Need-loop-holds Inv-loop μ-loop
-loop-holds c = search needs
-
-shared-slice-read-if2 : tie.Need-shared-slice-read-if2 Inv-loop μ-loop
-shared-slice-read-if2 c = search needs
-
-add-i : tie.Need-add-i Inv-loop μ-loop
-add-i c = search needs
-
-loop-less : tie.Need-loop-less Inv-loop μ-loop
-loop-less c = search needs
-
 loop-again : tie.Need-loop-again Inv-loop μ-loop
 loop-again c = (search needs, first-skip (λ (b : ℕ). eqb b (c .before .before .before .before .args .v)) (c .before .before .before .before .args .list .now) (c .before .before .before .loop .i) (search needs) (ne-eqb _ _ (c .if2 .left)) (c .before .before .before .loop .inv .1))
 
@@ -43,13 +31,4 @@ returns-2 c = sym (first-here (λ (b : ℕ). eqb b (c .before .before .before .b
 pub index-of-spec : {M : Type 1} → statement M
 index-of-spec =
     tie.close
-    (tie.spec
-    Inv-loop
-    μ-loop
-    loop-holds
-    shared-slice-read-if2
-    add-i
-    loop-less
-    loop-again
-    returns
-    returns-2)
+    (tie.spec Inv-loop μ-loop (λ c. search needs) (λ c. search needs) (λ c. search needs) (λ c. search needs) loop-again returns returns-2)

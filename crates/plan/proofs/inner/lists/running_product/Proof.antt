@@ -20,9 +20,6 @@ loop-holds : tie.Need-loop-holds Inv-loop μ-loop
 unfolding Lists.product
 loop-holds c = (search needs, (search needs, (refl, omega arith)))
 
-shared-slice-read-next : tie.Need-shared-slice-read-next Inv-loop μ-loop
-shared-slice-read-next c = search needs
-
 cast-next : tie.Need-cast-next Inv-loop μ-loop
 cast-next c = omega (arith, c .shared-slice-known .given (c .before .before .loop .i))
 
@@ -34,12 +31,6 @@ returns c =
     let l = c .before .before .before .loop in
     let xs = c .before .before .before .before .args .list .now in
     running-at xs (l .i) (l .product) (over-here xs (l .product) (l .i) (search needs) (c .if1 .taken) (l .inv .1 .1 .1)) (l .inv .1 .1 .0)
-
-add-i : tie.Need-add-i Inv-loop μ-loop
-add-i c = search needs
-
-loop-less : tie.Need-loop-less Inv-loop μ-loop
-loop-less c = search needs
 
 loop-again : tie.Need-loop-again Inv-loop μ-loop
 loop-again c =
@@ -56,15 +47,5 @@ returns-2 c =
 pub running-product-spec : {M : Type 1} → statement M
 running-product-spec =
     tie.close
-    (tie.spec
-    Inv-loop
-    μ-loop
-    loop-holds
-    shared-slice-read-next
-    cast-next
-    mul-next
-    returns
-    add-i
-    loop-less
-    loop-again
+    (tie.spec Inv-loop μ-loop loop-holds (λ c. search needs) cast-next mul-next returns (λ c. search needs) (λ c. search needs) loop-again
     returns-2)

@@ -19,44 +19,17 @@ sub-s-2 : tie.Need-sub-s-2
 unfolding Tells
 sub-s-2 c = tells-as (c .before .before .before .before .args .t) (c .before .before .before .before .args .rule) A (c .before .before .before .before .pre .0) (c .before .before .enum-told .given .1) .1
 
-add-s : tie.Need-add-s
-add-s c = search needs
-
-enum-told-2 : tie.Need-enum-told-2
-enum-told-2 c = search needs
-
 sub-s-3 : tie.Need-sub-s-3
 unfolding Tells
 sub-s-3 c = tells-as (c .before .before .before .args .t) (c .before .before .before .args .rule) B (c .before .before .before .pre .0) (c .before .enum-told2 .given .1)
-
-add-s-2 : tie.Need-add-s-2
-add-s-2 c = search needs
-
-enum-told-3 : tie.Need-enum-told-3
-enum-told-3 c = search needs
 
 sub-s-4 : tie.Need-sub-s-4
 unfolding Tells
 sub-s-4 c = tells-as (c .before .before .before .args .t) (c .before .before .before .args .rule) C (c .before .before .before .pre .0) (c .before .enum-told3 .given .1)
 
-add-s-3 : tie.Need-add-s-3
-add-s-3 c = search needs
-
-add-s-4 : tie.Need-add-s-4
-add-s-4 c = search needs
-
-enum-told-4 : tie.Need-enum-told-4
-enum-told-4 c = search needs
-
 sub-s-5 : tie.Need-sub-s-5
 unfolding Tells
 sub-s-5 c = tells-as (c .before .before .before .args .t) (c .before .before .before .args .rule) D (c .before .before .before .pre .0) (c .before .enum-told4 .given .1)
-
-add-s-5 : tie.Need-add-s-5
-add-s-5 c = search needs
-
-enum-told-5 : tie.Need-enum-told-5
-enum-told-5 c = search needs
 
 returns : tie.Need-returns
 unfolding merge
@@ -81,24 +54,6 @@ returns-5 c = ap (λ (r : Rule). merge r (c .before .before .args .t)) (sym (c .
 pub merge-spec : {M : Type 1} → statement M
 merge-spec =
     tie.close
-    (tie.spec
-    enum-told
-    sub-s
-    sub-s-2
-    add-s
-    enum-told-2
-    sub-s-3
-    add-s-2
-    enum-told-3
-    sub-s-4
-    add-s-3
-    add-s-4
-    enum-told-4
-    sub-s-5
-    add-s-5
-    enum-told-5
-    returns
-    returns-2
-    returns-3
-    returns-4
-    returns-5)
+    (tie.spec enum-told sub-s sub-s-2 (λ c. search needs) (λ c. search needs) sub-s-3 (λ c. search needs) (λ c. search needs) sub-s-4
+    (λ c. search needs) (λ c. search needs) (λ c. search needs) sub-s-5 (λ c. search needs) (λ c. search needs) returns returns-2 returns-3
+    returns-4 returns-5)

@@ -14,12 +14,6 @@ abbrev μ-merging : tie.MeasureT-merging
 merging-holds : tie.Need-merging-holds Inv-merging μ-merging
 merging-holds c = so-far-none (c .args .start) (c .pre)
 
-first-rule-requires : tie.Need-first-rule-requires Inv-merging μ-merging
-first-rule-requires c κs = search needs
-
-letter-requires : tie.Need-letter-requires Inv-merging μ-merging
-letter-requires c κs = search needs
-
 array-write-letters : tie.Need-array-write-letters Inv-merging μ-merging
 array-write-letters c = so-far-fits (c .before .before .before .before .args .start) (c .before .before .before .merging .letters) (c .before .before .before .merging .count) (c .before .before .before .merging .t) (c .before .before .before .merging .inv) (c .before .before .first-rule .result) (c .before .letter .result) (c .before .before .first-rule .ensures) (c .before .letter .ensures) (c .if1 .left)
 
@@ -41,15 +35,5 @@ returns c = so-far-end (c .before .before .before .before .args .start) (c .befo
 pub merge-all-spec : {M : Type 1} → statement M
 merge-all-spec =
     tie.close
-    (tie.spec
-    Inv-merging
-    μ-merging
-    merging-holds
-    first-rule-requires
-    letter-requires
-    array-write-letters
-    add-count
-    merge-requires
-    merging-less
-    merging-again
-    returns)
+    (tie.spec Inv-merging μ-merging merging-holds (λ c κs. search needs) (λ c κs. search needs) array-write-letters add-count merge-requires
+    merging-less merging-again returns)

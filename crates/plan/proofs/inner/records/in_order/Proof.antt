@@ -10,14 +10,8 @@ use Rattle.plan.proofs.inner.records.in_order.Tie as tie
 returns : tie.Need-returns
 returns c = order-long (c .before .args .count) (c .before .args .t2) (c .if1 .taken)
 
-array-share-prefix-radices : tie.Need-array-share-prefix-radices
-array-share-prefix-radices c = search needs
-
 slice-aggregate-counts-of : tie.Need-slice-aggregate-counts-of
 slice-aggregate-counts-of c = sym (length-take-le _ _ (omega arith))
-
-counts-of-requires : tie.Need-counts-of-requires
-counts-of-requires c κs = search needs
 
 size-requires : tie.Need-size-requires
 size-requires c κs = counted-few (c .before .before .before .args .count) (c .before .before .before .args .t2) (c .counts-of .result) (c .counts-of .ensures) (c .before .before .if1 .left)
@@ -34,24 +28,11 @@ returns-3 c = order-low (c .before .before .before .before .before .before .befo
 ascending-requires : tie.Need-ascending-requires
 ascending-requires c κs = counted-few (c .before .before .before .before .before .before .before .args .count) (c .before .before .before .before .before .before .before .args .t2) (c .before .before .before .before .counts-of .result) (c .before .before .before .before .counts-of .ensures) (c .before .before .before .before .before .before .if1 .left)
 
-same-requires : tie.Need-same-requires
-same-requires c κs = search needs
-
 returns-4 : tie.Need-returns-4
 returns-4 c = c .same .ensures ∙ order-same (c .before .before .before .before .before .before .before .before .before .args .count) (c .before .before .before .before .before .before .before .before .before .args .t2) (c .before .before .before .before .before .before .counts-of .result) (c .before .before .before .before .before .before .counts-of .ensures) (c .before .before .before .before .before .before .before .before .if1 .left) (c .before .before .before .before .before .size .result) (c .before .before .before .before .before .size .ensures) (c .before .before .before .before .if2 .left) (c .before .before .if3 .left) _ (c .before .ascending .ensures)
 
 pub in-order-spec : {M : Type 1} → statement M
 in-order-spec =
     tie.close
-    (tie.spec
-    returns
-    array-share-prefix-radices
-    slice-aggregate-counts-of
-    counts-of-requires
-    size-requires
-    returns-2
-    add-if3
-    returns-3
-    ascending-requires
-    same-requires
-    returns-4)
+    (tie.spec returns (λ c. search needs) slice-aggregate-counts-of (λ c κs. search needs) size-requires returns-2 add-if3 returns-3
+    ascending-requires (λ c κs. search needs) returns-4)

@@ -8,9 +8,6 @@ use borrow.Author.Tests.{not-true, not-false}
 use Rattle.plan.proofs.inner.records.is_planned.Statement.{statement}
 use Rattle.plan.proofs.inner.records.is_planned.Tie as tie
 
-in-order-requires : tie.Need-in-order-requires
-in-order-requires c κs = search needs
-
 returns : tie.Need-returns
 returns c = planned-disordered (c .before .before .before .args .plan) (sym (c .before .in-order .ensures) ∙ not-true _ (c .if1 .taken))
 
@@ -19,9 +16,6 @@ returns-2 c = planned-large (c .before .before .before .before .before .args .pl
 
 returns-3 : tie.Need-returns-3
 returns-3 c = planned-not-twice (c .before .before .before .before .before .before .before .args .plan) (c .before .before .if2 .left) (λ e. omega (arith, e, c .if3 .taken, c .before .before .if2 .left))
-
-mul-if4 : tie.Need-mul-if4
-mul-if4 c = search needs
 
 returns-4 : tie.Need-returns-4
 returns-4 c = planned-not-twice (c .before .before .before .before .before .before .before .before .before .before .args .plan) (c .before .before .before .before .before .if2 .left) (c .if4 .taken)
@@ -41,14 +35,5 @@ returns-5 c = c .makes .ensures ∙ planned-made (c .before .before .before .bef
 pub is-planned-spec : {M : Type 1} → statement M
 is-planned-spec =
     tie.close
-    (tie.spec
-    in-order-requires
-    returns
-    returns-2
-    returns-3
-    mul-if4
-    returns-4
-    array-share-prefix-radices
-    slice-aggregate-makes
-    makes-requires
-    returns-5)
+    (tie.spec (λ c κs. search needs) returns returns-2 returns-3 (λ c. search needs) returns-4 array-share-prefix-radices
+    slice-aggregate-makes makes-requires returns-5)

@@ -9,21 +9,9 @@ use borrow.Author.Needs.{needs}
 use Rattle.plan.proofs.inner.scaling.check.Statement.{statement}
 use Rattle.plan.proofs.inner.scaling.check.Tie as tie
 
-first-bad-requires : tie.Need-first-bad-requires
-first-bad-requires c κs = search needs
-
-add-t8 : tie.Need-add-t8
-add-t8 c = search needs
-
 returns : tie.Need-returns
 returns c = ap (λ (n : ℕ). Refused (NoRadix (c .before .before .before .args .from + n))) (c .before .first-bad .ensures)
     ∙ check-bad (c .before .before .before .args .from) (c .before .before .before .args .list .now) (rw (c .before .first-bad .ensures) at (c .if1 .taken))
-
-running-product-requires : tie.Need-running-product-requires
-running-product-requires c κs = search needs
-
-add-t10 : tie.Need-add-t10
-add-t10 c = search needs
 
 returns-2 : tie.Need-returns-2
 returns-2 c = ap (λ (n : ℕ). Refused (TooLarge (c .before .before .before .before .before .args .from + n))) (running-early (c .before .before .before .before .before .args .list .now) (c .before .running-product .result) (c .before .running-product .ensures))
@@ -35,11 +23,4 @@ returns-3 c = check-through (c .before .before .before .before .before .args .fr
 pub check-spec : {M : Type 1} → statement M
 check-spec =
     tie.close
-    (tie.spec
-    first-bad-requires
-    add-t8
-    returns
-    running-product-requires
-    add-t10
-    returns-2
-    returns-3)
+    (tie.spec (λ c κs. search needs) (λ c. search needs) returns (λ c κs. search needs) (λ c. search needs) returns-2 returns-3)

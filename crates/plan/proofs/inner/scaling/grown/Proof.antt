@@ -14,20 +14,11 @@ copied-requires c κs = omega (arith, grown-front (c .before .args .list .now) (
 filled-requires : tie.Need-filled-requires
 filled-requires c κs = grown-front (c .before .before .args .list .now) (c .before .before .args .g) (c .before .before .pre)
 
-add-t10 : tie.Need-add-t10
-add-t10 c = search needs
-
 returns : tie.Need-returns
 returns c = grown-exact (c .before .before .before .before .args .list .now) (c .before .filled .result) (c .before .before .before .before .args .g) (filled-padded (c .before .before .before .before .args .list .now) _ _ _ (c .before .before .before .before .args .g / 3) 8 refl (grown-front (c .before .before .before .before .args .list .now) (c .before .before .before .before .args .g) (c .before .before .before .before .pre)) (c .before .before .copied .ensures ∙ paste-empty (c .before .before .before .before .args .list .now) (omega (arith, grown-front (c .before .before .before .before .args .list .now) (c .before .before .before .before .args .g) (c .before .before .before .before .pre)))) (c .before .filled .ensures) .0) (c .if1 .taken)
 
-add-pushed : tie.Need-add-pushed
-add-pushed c = search needs
-
 pushed-requires : tie.Need-pushed-requires
 pushed-requires c κs = grown-room (c .before .before .before .before .before .args .list .now) (c .before .before .before .before .before .args .g) (c .before .before .before .before .before .pre) (c .before .if1 .left)
-
-add-pushed-2 : tie.Need-add-pushed-2
-add-pushed-2 c = search needs
 
 pushed-requires-2 : tie.Need-pushed-requires-2
 pushed-requires-2 c κs = grown-room (c .before .before .before .before .before .args .list .now) (c .before .before .before .before .before .args .g) (c .before .before .before .before .before .pre) (c .before .if1 .left)
@@ -41,14 +32,5 @@ returns-3 c = grown-pushed (c .before .before .before .before .before .before .a
 pub grown-spec : {M : Type 1} → statement M
 grown-spec =
     tie.close
-    (tie.spec
-    copied-requires
-    filled-requires
-    add-t10
-    returns
-    add-pushed
-    pushed-requires
-    add-pushed-2
-    pushed-requires-2
-    returns-2
-    returns-3)
+    (tie.spec copied-requires filled-requires (λ c. search needs) returns (λ c. search needs) pushed-requires (λ c. search needs)
+    pushed-requires-2 returns-2 returns-3)

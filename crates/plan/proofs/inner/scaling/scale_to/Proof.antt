@@ -5,55 +5,20 @@ use borrow.Author.Needs.{needs}
 use Rattle.plan.proofs.inner.scaling.scale_to.Statement.{statement}
 use Rattle.plan.proofs.inner.scaling.scale_to.Tie as tie
 
-check-requires : tie.Need-check-requires
-check-requires c κs = search needs
-
-enum-known-ins : tie.Need-enum-known-ins
-enum-known-ins c = search needs
-
-refused-requires : tie.Need-refused-requires
-refused-requires c κs = search needs
-
 returns : tie.Need-returns
 returns c = scale-in (c .before .before .before .before .before .before .before .args .target) (c .before .before .before .before .before .before .before .args .in-list .now) (c .before .before .before .before .before .before .before .args .out-list .now) _ _ (c .refused .ensures) (sym (c .before .before .before .before .check .ensures) ∙ c .before .before .ins .given .1)
 
 enum-told : tie.Need-enum-told
 enum-told c = search needs
 
-check-requires-2 : tie.Need-check-requires-2
-check-requires-2 c κs = search needs
-
-enum-known-outs : tie.Need-enum-known-outs
-enum-known-outs c = search needs
-
-refused-requires-2 : tie.Need-refused-requires-2
-refused-requires-2 c κs = search needs
-
 returns-2 : tie.Need-returns-2
 returns-2 c = scale-out (c .before .before .before .before .before .before .before .before .before .before .args .target) (c .before .before .before .before .before .before .before .before .before .before .args .in-list .now) (c .before .before .before .before .before .before .before .before .before .before .args .out-list .now) (sym (c .before .before .before .before .before .before .before .check .ensures) ∙ c .before .before .before .before .before .enum-told .given .1) _ _ (c .refused2 .ensures) (sym (c .before .before .before .before .check2 .ensures) ∙ c .before .before .outs .given .1)
-
-enum-told-2 : tie.Need-enum-told-2
-enum-told-2 c = search needs
 
 scaled-lists-requires : tie.Need-scaled-lists-requires
 scaled-lists-requires c κs = (c .before .before .before .before .before .before .before .before .pre, (sym (c .before .before .before .before .before .check .ensures) ∙ c .before .before .before .enum-told .given .1, sym (c .before .before .check2 .ensures) ∙ c .enum-told2 .given .1))
 
-returns-3 : tie.Need-returns-3
-returns-3 c = search needs
-
 pub scale-to-spec : {M : Type 1} → statement M
 scale-to-spec =
     tie.close
-    (tie.spec
-    check-requires
-    enum-known-ins
-    refused-requires
-    returns
-    enum-told
-    check-requires-2
-    enum-known-outs
-    refused-requires-2
-    returns-2
-    enum-told-2
-    scaled-lists-requires
-    returns-3)
+    (tie.spec (λ c κs. search needs) (λ c. search needs) (λ c κs. search needs) returns enum-told (λ c κs. search needs) (λ c. search needs)
+    (λ c κs. search needs) returns-2 (λ c. search needs) scaled-lists-requires (λ c. search needs))

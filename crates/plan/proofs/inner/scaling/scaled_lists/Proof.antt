@@ -5,12 +5,6 @@ use Rattle.plan.proofs.Scaling.{check-base, base-product, base-bounds, 
 use Rattle.plan.proofs.inner.scaling.scaled_lists.Statement.{statement}
 use Rattle.plan.proofs.inner.scaling.scaled_lists.Tie as tie
 
-running-product-requires : tie.Need-running-product-requires
-running-product-requires c κs = search needs
-
-running-product-requires-2 : tie.Need-running-product-requires-2
-running-product-requires-2 c κs = search needs
-
 gain-requires : tie.Need-gain-requires
 gain-requires c κs = (c .before .before .before .before .pre .0, base-bounds 0 (c .before .before .before .before .args .in-list .now) (check-base 0 (c .before .before .before .before .args .in-list .now) (c .before .before .before .before .pre .1 .0)) (c .before .running-product .result) (c .before .running-product .ensures))
 
@@ -19,12 +13,6 @@ power-requires c κs = in-few 0 (c .before .before .before .before .before .args
 
 mul-if1 : tie.Need-mul-if1
 mul-if1 c = record { fits = power-fits (c .before .before .gain .result) _ _ (c .before .power .ensures) (in-few 0 (c .before .before .before .before .before .before .before .args .in-list .now) (check-base 0 (c .before .before .before .before .before .before .before .args .in-list .now) (c .before .before .before .before .before .before .before .pre .1 .0)) (c .before .before .before .before .running-product .result) (c .before .before .before .before .running-product .ensures) (c .before .before .before .before .before .before .before .args .target) (c .before .before .before .before .before .before .before .pre .0) (c .before .before .gain .result) (c .before .before .gain .ensures)) (base-bounds (length (c .before .before .before .before .before .before .before .args .in-list .now)) (c .before .before .before .before .before .before .before .args .out-list .now) (check-base (length (c .before .before .before .before .before .before .before .args .in-list .now)) (c .before .before .before .before .before .before .before .args .out-list .now) (c .before .before .before .before .before .before .before .pre .1 .1)) (c .before .before .before .running-product2 .result) (c .before .before .before .running-product2 .ensures) .1) }
-
-add-t14 : tie.Need-add-t14
-add-t14 c = search needs
-
-refused-requires : tie.Need-refused-requires
-refused-requires c κs = search needs
 
 returns : tie.Need-returns
 returns c = scale-large (c .before .before .before .before .before .before .before .before .before .args .target) (c .before .before .before .before .before .before .before .before .before .args .in-list .now) (c .before .before .before .before .before .before .before .before .before .args .out-list .now) (c .before .before .before .before .before .before .before .before .before .pre .1 .0) (c .before .before .before .before .before .before .before .before .before .pre .1 .1) (c .before .before .before .before .gain .result) (c .before .before .before .power .result) (c .before .before .before .before .before .before .running-product .result .product) (c .before .before .before .before .before .running-product2 .result .product) (in-gain 0 (c .before .before .before .before .before .before .before .before .before .args .in-list .now) (check-base 0 (c .before .before .before .before .before .before .before .before .before .args .in-list .now) (c .before .before .before .before .before .before .before .before .before .pre .1 .0)) (c .before .before .before .before .before .before .running-product .result) (c .before .before .before .before .before .before .running-product .ensures) (c .before .before .before .before .before .before .before .before .before .args .target) (c .before .before .before .before .before .before .before .before .before .pre .0) (c .before .before .before .before .gain .result) (c .before .before .before .before .gain .ensures)) (c .before .before .before .power .ensures) (base-product 0 (c .before .before .before .before .before .before .before .before .before .args .in-list .now) (check-base 0 (c .before .before .before .before .before .before .before .before .before .args .in-list .now) (c .before .before .before .before .before .before .before .before .before .pre .1 .0)) (c .before .before .before .before .before .before .running-product .result) (c .before .before .before .before .before .before .running-product .ensures)) (base-product (length (c .before .before .before .before .before .before .before .before .before .args .in-list .now)) (c .before .before .before .before .before .before .before .before .before .args .out-list .now) (check-base (length (c .before .before .before .before .before .before .before .before .before .args .in-list .now)) (c .before .before .before .before .before .before .before .before .before .args .out-list .now) (c .before .before .before .before .before .before .before .before .before .pre .1 .1)) (c .before .before .before .before .before .running-product2 .result) (c .before .before .before .before .before .running-product2 .ensures)) (c .before .if1 .taken) _ (c .refused .ensures)
@@ -38,26 +26,11 @@ grown-requires-2 c κs = base-fits (length (c .before .before .before .before .b
 mul-t10 : tie.Need-mul-t10
 mul-t10 c = record { fits = power-fits (c .before .before .before .before .before .before .gain .result) _ _ (c .before .before .before .before .before .power .ensures) (in-few 0 (c .before .before .before .before .before .before .before .before .before .before .before .args .in-list .now) (check-base 0 (c .before .before .before .before .before .before .before .before .before .before .before .args .in-list .now) (c .before .before .before .before .before .before .before .before .before .before .before .pre .1 .0)) (c .before .before .before .before .before .before .before .before .running-product .result) (c .before .before .before .before .before .before .before .before .running-product .ensures) (c .before .before .before .before .before .before .before .before .before .before .before .args .target) (c .before .before .before .before .before .before .before .before .before .before .before .pre .0) (c .before .before .before .before .before .before .gain .result) (c .before .before .before .before .before .before .gain .ensures)) (base-bounds 0 (c .before .before .before .before .before .before .before .before .before .before .before .args .in-list .now) (check-base 0 (c .before .before .before .before .before .before .before .before .before .before .before .args .in-list .now) (c .before .before .before .before .before .before .before .before .before .before .before .pre .1 .0)) (c .before .before .before .before .before .before .before .before .running-product .result) (c .before .before .before .before .before .before .before .before .running-product .ensures) .1) }
 
-mul-t17 : tie.Need-mul-t17
-mul-t17 c = search needs
-
 returns-2 : tie.Need-returns-2
 returns-2 c = scale-accepted (c .before .before .before .before .before .before .before .before .before .before .before .before .args .target) (c .before .before .before .before .before .before .before .before .before .before .before .before .args .in-list .now) (c .before .before .before .before .before .before .before .before .before .before .before .before .args .out-list .now) (c .before .before .before .before .before .before .before .before .before .before .before .before .pre .1 .0) (c .before .before .before .before .before .before .before .before .before .before .before .before .pre .1 .1) (c .before .before .before .before .before .before .before .gain .result) (c .before .before .before .before .before .before .power .result) (c .before .before .before .before .before .before .before .before .before .running-product .result .product) (c .before .before .before .before .before .before .before .before .running-product2 .result .product) (in-gain 0 (c .before .before .before .before .before .before .before .before .before .before .before .before .args .in-list .now) (check-base 0 (c .before .before .before .before .before .before .before .before .before .before .before .before .args .in-list .now) (c .before .before .before .before .before .before .before .before .before .before .before .before .pre .1 .0)) (c .before .before .before .before .before .before .before .before .before .running-product .result) (c .before .before .before .before .before .before .before .before .before .running-product .ensures) (c .before .before .before .before .before .before .before .before .before .before .before .before .args .target) (c .before .before .before .before .before .before .before .before .before .before .before .before .pre .0) (c .before .before .before .before .before .before .before .gain .result) (c .before .before .before .before .before .before .before .gain .ensures)) (c .before .before .before .before .before .before .power .ensures) (base-product 0 (c .before .before .before .before .before .before .before .before .before .before .before .before .args .in-list .now) (check-base 0 (c .before .before .before .before .before .before .before .before .before .before .before .before .args .in-list .now) (c .before .before .before .before .before .before .before .before .before .before .before .before .pre .1 .0)) (c .before .before .before .before .before .before .before .before .before .running-product .result) (c .before .before .before .before .before .before .before .before .before .running-product .ensures)) (base-product (length (c .before .before .before .before .before .before .before .before .before .before .before .before .args .in-list .now)) (c .before .before .before .before .before .before .before .before .before .before .before .before .args .out-list .now) (check-base (length (c .before .before .before .before .before .before .before .before .before .before .before .before .args .in-list .now)) (c .before .before .before .before .before .before .before .before .before .before .before .before .args .out-list .now) (c .before .before .before .before .before .before .before .before .before .before .before .before .pre .1 .1)) (c .before .before .before .before .before .before .before .before .running-product2 .result) (c .before .before .before .before .before .before .before .before .running-product2 .ensures)) (c .before .before .before .before .if1 .left) _ _ (c .before .before .before .grown .ensures) (c .before .before .grown2 .ensures)
 
 pub scaled-lists-spec : {M : Type 1} → statement M
 scaled-lists-spec =
     tie.close
-    (tie.spec
-    running-product-requires
-    running-product-requires-2
-    gain-requires
-    power-requires
-    mul-if1
-    add-t14
-    refused-requires
-    returns
-    grown-requires
-    grown-requires-2
-    mul-t10
-    mul-t17
-    returns-2)
+    (tie.spec (λ c κs. search needs) (λ c κs. search needs) gain-requires power-requires mul-if1 (λ c. search needs) (λ c κs. search needs)
+    returns grown-requires grown-requires-2 mul-t10 (λ c. search needs) returns-2)

@@ -31,12 +31,6 @@ mul-s c =
     let e = sym (ap (λ (n : ℕ). n * getD (c .before .before .before .args .t1 .radices) (c .before .before .loop .i) 0) (c .before .before .loop .inv .1 .1 .1)) in
     omega (arith, e, stride-next (c .before .before .before .args .t1) (c .before .before .loop .inv .0) (c .before .before .loop .i) (omega arith), stride-small (c .before .before .before .args .t1) (c .before .before .loop .inv .0) (c .before .before .loop .i + 1) (omega arith))
 
-add-i : tie.Need-add-i Inv-loop μ-loop
-add-i c = search needs
-
-loop-less : tie.Need-loop-less Inv-loop μ-loop
-loop-less c = search needs
-
 loop-again : tie.Need-loop-again Inv-loop μ-loop
 loop-again c = (
   c .before .before .loop .inv .0,
@@ -57,14 +51,4 @@ returns c =
 pub stride-spec : {M : Type 1} → statement M
 stride-spec =
     tie.close
-    (tie.spec
-    Inv-loop
-    μ-loop
-    loop-holds
-    element-copy-out-s
-    cast-s
-    mul-s
-    add-i
-    loop-less
-    loop-again
-    returns)
+    (tie.spec Inv-loop μ-loop loop-holds element-copy-out-s cast-s mul-s (λ c. search needs) (λ c. search needs) loop-again returns)

@@ -28,9 +28,6 @@ add-sum c = omega (arith, c .twiddle-count .ensures, count-small (c .before .bef
 add-i : tie.Need-add-i Inv-loop μ-loop
 add-i c = omega (arith, plan-order (c .before .before .before .args .plan) (c .before .before .loop .inv .0) .few)
 
-loop-less : tie.Need-loop-less Inv-loop μ-loop
-loop-less c = search needs
-
 loop-again : tie.Need-loop-again Inv-loop μ-loop
 loop-again c = (
   c .before .before .loop .inv .0,
@@ -51,13 +48,4 @@ returns c =
 pub twiddle-start-spec : {M : Type 1} → statement M
 twiddle-start-spec =
     tie.close
-    (tie.spec
-    Inv-loop
-    μ-loop
-    loop-holds
-    twiddle-count-requires
-    add-sum
-    add-i
-    loop-less
-    loop-again
-    returns)
+    (tie.spec Inv-loop μ-loop loop-holds twiddle-count-requires add-sum add-i (λ c. search needs) loop-again returns)

@@ -11,19 +11,10 @@ use Rattle.plan_text.proofs.Growing.{said, some-factors}
 use Rattle.plan_text.proofs.inner.lines.factor_words.Statement.{statement}
 use Rattle.plan_text.proofs.inner.lines.factor_words.Tie as tie
 
-slice-aggregate-with-bytes : tie.Need-slice-aggregate-with-bytes
-slice-aggregate-with-bytes c = search needs
-
-with-bytes-requires : tie.Need-with-bytes-requires
-with-bytes-requires c κs = search needs
-
 returns : tie.Need-returns
 unfolding factorWords
 returns c =
     said (ap (λ (k : ℕ). spaced (factorWords (take k (c .before .before .before .args .radices)))) (sym (c .before .before .if1 .taken))) (lit≤ tt) (c .with-bytes .ensures)
-
-spaced-radices-requires : tie.Need-spaced-radices-requires
-spaced-radices-requires c κs = search needs
 
 returns-2 : tie.Need-returns-2
 returns-2 c =
@@ -33,9 +24,4 @@ returns-2 c =
 pub factor-words-spec : {M : Type 1} → statement M
 factor-words-spec =
     tie.close
-    (tie.spec
-    slice-aggregate-with-bytes
-    with-bytes-requires
-    returns
-    spaced-radices-requires
-    returns-2)
+    (tie.spec (λ c. search needs) (λ c κs. search needs) returns (λ c κs. search needs) returns-2)

@@ -15,17 +15,8 @@ use Rattle.plan_text.proofs.Plans.{planned-count, count-of, buffer-of}
 use Rattle.plan_text.proofs.inner.lines.plan_lines.Statement.{statement}
 use Rattle.plan_text.proofs.inner.lines.plan_lines.Tie as tie
 
-empty-requires : tie.Need-empty-requires
-empty-requires c κs = search needs
-
-slice-aggregate-number-line : tie.Need-slice-aggregate-number-line
-slice-aggregate-number-line c = search needs
-
 number-line-requires : tie.Need-number-line-requires
 number-line-requires c κs = omega arith
-
-slice-aggregate-number-line-2 : tie.Need-slice-aggregate-number-line-2
-slice-aggregate-number-line-2 c = search needs
 
 number-line-requires-2 : tie.Need-number-line-requires-2
 number-line-requires-2 c κs = omega arith
@@ -36,32 +27,14 @@ factors-line-requires c κs = (
   omega arith,
 )
 
-slice-aggregate-number-line-3 : tie.Need-slice-aggregate-number-line-3
-slice-aggregate-number-line-3 c = search needs
-
 number-line-requires-3 : tie.Need-number-line-requires-3
 number-line-requires-3 c κs = omega arith
-
-slice-aggregate-number-line-4 : tie.Need-slice-aggregate-number-line-4
-slice-aggregate-number-line-4 c = search needs
-
-stage-twiddles-requires : tie.Need-stage-twiddles-requires
-stage-twiddles-requires c κs = search needs
 
 number-line-requires-4 : tie.Need-number-line-requires-4
 number-line-requires-4 c κs = omega arith
 
-slice-aggregate-number-line-5 : tie.Need-slice-aggregate-number-line-5
-slice-aggregate-number-line-5 c = search needs
-
-end-twiddles-requires : tie.Need-end-twiddles-requires
-end-twiddles-requires c κs = search needs
-
 number-line-requires-5 : tie.Need-number-line-requires-5
 number-line-requires-5 c κs = omega (arith, c .before .before .before .before .before .before .before .before .before)
-
-result-requires : tie.Need-result-requires
-result-requires c κs = search needs
 
 result-line-requires : tie.Need-result-line-requires
 result-line-requires c κs = omega (arith, c .before .before .before .before .before .before .before .before .before)
@@ -103,21 +76,6 @@ returns c =
 pub plan-lines-spec : {M : Type 1} → statement M
 plan-lines-spec =
     tie.close
-    (tie.spec
-    empty-requires
-    slice-aggregate-number-line
-    number-line-requires
-    slice-aggregate-number-line-2
-    number-line-requires-2
-    factors-line-requires
-    slice-aggregate-number-line-3
-    number-line-requires-3
-    slice-aggregate-number-line-4
-    stage-twiddles-requires
-    number-line-requires-4
-    slice-aggregate-number-line-5
-    end-twiddles-requires
-    number-line-requires-5
-    result-requires
-    result-line-requires
-    returns)
+    (tie.spec (λ c κs. search needs) (λ c. search needs) number-line-requires (λ c. search needs) number-line-requires-2
+    factors-line-requires (λ c. search needs) number-line-requires-3 (λ c. search needs) (λ c κs. search needs) number-line-requires-4
+    (λ c. search needs) (λ c κs. search needs) number-line-requires-5 (λ c κs. search needs) result-line-requires returns)

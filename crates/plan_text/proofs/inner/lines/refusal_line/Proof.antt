@@ -12,26 +12,11 @@ use Rattle.plan_text.proofs.Growing.{then, said, holds, two-words}
 use Rattle.plan_text.proofs.inner.lines.refusal_line.Statement.{statement}
 use Rattle.plan_text.proofs.inner.lines.refusal_line.Tie as tie
 
-empty-requires : tie.Need-empty-requires
-empty-requires c κs = search needs
-
-slice-aggregate-with-bytes : tie.Need-slice-aggregate-with-bytes
-slice-aggregate-with-bytes c = search needs
-
 with-bytes-requires : tie.Need-with-bytes-requires
 with-bytes-requires c κs = omega arith
 
-number-requires : tie.Need-number-requires
-number-requires c κs = search needs
-
-cast-with-number : tie.Need-cast-with-number
-cast-with-number c = search needs
-
 with-number-requires : tie.Need-with-number-requires
 with-number-requires c κs = omega arith
-
-place-requires : tie.Need-place-requires
-place-requires c κs = search needs
 
 with-number-requires-2 : tie.Need-with-number-requires-2
 with-number-requires-2 c κs = omega arith
@@ -55,14 +40,5 @@ returns c =
 pub refusal-line-spec : {M : Type 1} → statement M
 refusal-line-spec =
     tie.close
-    (tie.spec
-    empty-requires
-    slice-aggregate-with-bytes
-    with-bytes-requires
-    number-requires
-    cast-with-number
-    with-number-requires
-    place-requires
-    with-number-requires-2
-    with-byte-requires
-    returns)
+    (tie.spec (λ c κs. search needs) (λ c. search needs) with-bytes-requires (λ c κs. search needs) (λ c. search needs) with-number-requires
+    (λ c κs. search needs) with-number-requires-2 with-byte-requires returns)

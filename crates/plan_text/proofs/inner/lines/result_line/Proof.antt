@@ -13,21 +13,6 @@ use Rattle.plan_text.proofs.inner.lines.result_line.Tie as tie
 enum-told : tie.Need-enum-told
 enum-told c = search needs
 
-slice-aggregate-with-bytes : tie.Need-slice-aggregate-with-bytes
-slice-aggregate-with-bytes c = search needs
-
-with-bytes-requires : tie.Need-with-bytes-requires
-with-bytes-requires c κs = search needs
-
-enum-told-2 : tie.Need-enum-told-2
-enum-told-2 c = search needs
-
-slice-aggregate-with-bytes-2 : tie.Need-slice-aggregate-with-bytes-2
-slice-aggregate-with-bytes-2 c = search needs
-
-with-bytes-requires-2 : tie.Need-with-bytes-requires-2
-with-bytes-requires-2 c κs = search needs
-
 returns : tie.Need-returns
 returns c =
     said (ap (λ (b : Buffer). line "result" (bufferName b ∷ [])) (sym (c .before .before .enum-told .given .1))) (lit≤ tt) (c .with-bytes .ensures)
@@ -39,12 +24,5 @@ returns-2 c =
 pub result-line-spec : {M : Type 1} → statement M
 result-line-spec =
     tie.close
-    (tie.spec
-    enum-told
-    slice-aggregate-with-bytes
-    with-bytes-requires
-    enum-told-2
-    slice-aggregate-with-bytes-2
-    with-bytes-requires-2
-    returns
+    (tie.spec enum-told (λ c. search needs) (λ c κs. search needs) (λ c. search needs) (λ c. search needs) (λ c κs. search needs) returns
     returns-2)

@@ -20,17 +20,8 @@ abbrev μ-loop : tie.MeasureT-loop
 loop-holds : tie.Need-loop-holds Inv-loop μ-loop
 loop-holds c = (search needs, record { text = refl; short = omega arith })
 
-array-read-with-radix : tie.Need-array-read-with-radix Inv-loop μ-loop
-array-read-with-radix c = search needs
-
 with-radix-requires : tie.Need-with-radix-requires Inv-loop μ-loop
 with-radix-requires c κs = omega arith
-
-add-i : tie.Need-add-i Inv-loop μ-loop
-add-i c = search needs
-
-loop-less : tie.Need-loop-less Inv-loop μ-loop
-loop-less c = search needs
 
 loop-again : tie.Need-loop-again Inv-loop μ-loop
 loop-again c =
@@ -48,13 +39,4 @@ returns c =
 pub spaced-radices-spec : {M : Type 1} → statement M
 spaced-radices-spec =
     tie.close
-    (tie.spec
-    Inv-loop
-    μ-loop
-    loop-holds
-    array-read-with-radix
-    with-radix-requires
-    add-i
-    loop-less
-    loop-again
-    returns)
+    (tie.spec Inv-loop μ-loop loop-holds (λ c. search needs) with-radix-requires (λ c. search needs) (λ c. search needs) loop-again returns)

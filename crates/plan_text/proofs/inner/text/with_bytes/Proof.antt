@@ -16,20 +16,8 @@ Inv-loop s text₀ i₀ text i = (i ≤ length s) × ((text .len ≤ text₀ .le
 abbrev μ-loop : tie.MeasureT-loop
 μ-loop s text₀ i₀ text i = length s - i
 
-loop-holds : tie.Need-loop-holds Inv-loop μ-loop
-loop-holds c = search needs
-
-shared-slice-read-with-byte : tie.Need-shared-slice-read-with-byte Inv-loop μ-loop
-shared-slice-read-with-byte c = search needs
-
 with-byte-requires : tie.Need-with-byte-requires Inv-loop μ-loop
 with-byte-requires c κs = omega arith
-
-add-i : tie.Need-add-i Inv-loop μ-loop
-add-i c = search needs
-
-loop-less : tie.Need-loop-less Inv-loop μ-loop
-loop-less c = search needs
 
 loop-again : tie.Need-loop-again Inv-loop μ-loop
 loop-again c =
@@ -47,13 +35,5 @@ returns c =
 pub with-bytes-spec : {M : Type 1} → statement M
 with-bytes-spec =
     tie.close
-    (tie.spec
-    Inv-loop
-    μ-loop
-    loop-holds
-    shared-slice-read-with-byte
-    with-byte-requires
-    add-i
-    loop-less
-    loop-again
+    (tie.spec Inv-loop μ-loop (λ c. search needs) (λ c. search needs) with-byte-requires (λ c. search needs) (λ c. search needs) loop-again
     returns)

@@ -7,26 +7,11 @@ use Rattle.plan_text.specs.declared.inner.tokens.Token.{Token}
 use Rattle.plan_text.proofs.inner.tokens.end_token.Statement.{statement}
 use Rattle.plan_text.proofs.inner.tokens.end_token.Tie as tie
 
-enum-told : tie.Need-enum-told
-enum-told c = search needs
-
-enum-known-token : tie.Need-enum-known-token
-enum-known-token c = search needs
-
-digit-value-requires : tie.Need-digit-value-requires
-digit-value-requires c κs = search needs
-
 push-requires : tie.Need-push-requires
 push-requires c κs = omega (arith, ap size (c .before .before .token .given .1))
 
-enum-told-2 : tie.Need-enum-told-2
-enum-told-2 c = search needs
-
 push-requires-2 : tie.Need-push-requires-2
 push-requires-2 c κs = omega (arith, ap size (c .enum-told2 .given .1))
-
-returns : tie.Need-returns
-returns c = search needs
 
 returns-2 : tie.Need-returns-2
 returns-2 c =
@@ -41,13 +26,5 @@ returns-3 c =
 pub end-token-spec : {M : Type 1} → statement M
 end-token-spec =
     tie.close
-    (tie.spec
-    enum-told
-    enum-known-token
-    digit-value-requires
-    push-requires
-    enum-told-2
-    push-requires-2
-    returns
-    returns-2
-    returns-3)
+    (tie.spec (λ c. search needs) (λ c. search needs) (λ c κs. search needs) push-requires (λ c. search needs) push-requires-2
+    (λ c. search needs) returns-2 returns-3)

@@ -20,17 +20,8 @@ abbrev μ-loop : tie.MeasureT-loop
 loop-holds : tie.Need-loop-holds Inv-loop μ-loop
 loop-holds c = (search needs, (search needs, (search needs, gives-start _ _ refl refl)))
 
-shared-slice-read-step : tie.Need-shared-slice-read-step Inv-loop μ-loop
-shared-slice-read-step c = search needs
-
 step-requires : tie.Need-step-requires Inv-loop μ-loop
 step-requires c κs = omega arith
-
-add-i : tie.Need-add-i Inv-loop μ-loop
-add-i c = search needs
-
-loop-less : tie.Need-loop-less Inv-loop μ-loop
-loop-less c = search needs
 
 loop-again : tie.Need-loop-again Inv-loop μ-loop
 loop-again c =
@@ -70,14 +61,5 @@ returns c =
 pub read-radices-spec : {M : Type 1} → statement M
 read-radices-spec =
     tie.close
-    (tie.spec
-    Inv-loop
-    μ-loop
-    loop-holds
-    shared-slice-read-step
-    step-requires
-    add-i
-    loop-less
-    loop-again
-    end-token-requires
-    returns)
+    (tie.spec Inv-loop μ-loop loop-holds (λ c. search needs) step-requires (λ c. search needs) (λ c. search needs) loop-again
+    end-token-requires returns)

@@ -5,28 +5,10 @@ use Rattle.remainder.specs.Calls.{stageOf}
 use Rattle.remainder.proofs.inner.drive.all.Statement.{statement}
 use Rattle.remainder.proofs.inner.drive.all.Tie as tie
 
-drive-requires : tie.Need-drive-requires
-drive-requires c κs = search needs
-
-copy-requires : tie.Need-copy-requires
-copy-requires c κs = search needs
-
-same-length : tie.Need-same-length
-same-length c = search needs
-
-same-length-2 : tie.Need-same-length-2
-same-length-2 c = search needs
-
 returns : tie.Need-returns
 returns c =
     let a = c .before .before .before .before .before .before .before .before .before .before .before .before .before .before .before .before .args in
     driven-copied (λ j. stageOf (a .plan) j (a .m) (a .w)) (a .«data» .now, a .scratch .now) (a .plan .count) (c .before .before .before .before .before .if1 .taken) _ _ (c .before .before .copy .ensures) (c .before .before .before .before .before .before .before .before .before .before .before .drive .ensures .1)
-
-same-length-3 : tie.Need-same-length-3
-same-length-3 c = search needs
-
-same-length-4 : tie.Need-same-length-4
-same-length-4 c = search needs
 
 returns-2 : tie.Need-returns-2
 returns-2 c =
@@ -36,12 +18,5 @@ returns-2 c =
 pub all-spec : {M : Type 1} → statement M
 all-spec =
     tie.close
-    (tie.spec
-    drive-requires
-    copy-requires
-    same-length
-    same-length-2
-    returns
-    same-length-3
-    same-length-4
-    returns-2)
+    (tie.spec (λ c κs. search needs) (λ c κs. search needs) (λ c. search needs) (λ c. search needs) returns (λ c. search needs)
+    (λ c. search needs) returns-2)

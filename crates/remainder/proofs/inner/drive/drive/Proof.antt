@@ -36,12 +36,6 @@ work-requires-2 c κs =
     let l = c .before .before .before .before .loop in
     odd-workable (a .plan) (a .m) (a .w) (a .«data» .now) (a .scratch .now) _ (s .pre) (l .k) (c .before .before .before .loop-test .taken) (c .before .before .if1 .left) (l .scratch) (length (l .«data»)) (l .inv .1 .1) (ap length (l .inv .1 .0) ∙ both-lengths (a .plan) (a .m) (a .w) (a .«data» .now) (a .scratch .now) (s .pre .lent .long) (s .pre .wide) (l .k) .0)
 
-add-k : tie.Need-add-k Inv-loop μ-loop
-add-k c = search needs
-
-loop-less : tie.Need-loop-less Inv-loop μ-loop
-loop-less c = search needs
-
 loop-again : tie.Need-loop-again Inv-loop μ-loop
 loop-again c =
     let s = c .before .before .before .before .before in
@@ -80,15 +74,5 @@ returns c =
 pub drive-spec : {M : Type 1} → statement M
 drive-spec =
     tie.close
-    (tie.spec
-    Inv-loop
-    μ-loop
-    loop-holds
-    work-requires
-    work-requires-2
-    add-k
-    loop-less
-    loop-again
-    same-length
-    same-length-2
-    returns)
+    (tie.spec Inv-loop μ-loop loop-holds work-requires work-requires-2 (λ c. search needs) (λ c. search needs) loop-again same-length
+    same-length-2 returns)

@@ -20,9 +20,6 @@ loop-holds c = (omega arith, (omega arith, (refl, known-one (c .args .m) (c .arg
 sub-all : tie.Need-sub-all Inv-loop μ-loop
 sub-all c = omega arith
 
-mul-all : tie.Need-mul-all Inv-loop μ-loop
-mul-all c = search needs
-
 array-read-all : tie.Need-array-read-all Inv-loop μ-loop
 array-read-all c = omega arith
 
@@ -32,17 +29,8 @@ mul-all-2 c = record { fits = product-fits _ (c .before .before .args .w) (c .be
 rem-all : tie.Need-rem-all Inv-loop μ-loop
 rem-all c = omega arith
 
-mul-all-3 : tie.Need-mul-all-3 Inv-loop μ-loop
-mul-all-3 c = search needs
-
 array-write-all : tie.Need-array-write-all Inv-loop μ-loop
 array-write-all c = omega arith
-
-add-t : tie.Need-add-t Inv-loop μ-loop
-add-t c = search needs
-
-loop-less : tie.Need-loop-less Inv-loop μ-loop
-loop-less c = search needs
 
 loop-again : tie.Need-loop-again Inv-loop μ-loop
 loop-again c = (omega arith, (omega arith, (length-set (c .before .loop .all) (c .before .loop .t) (getD (c .before .loop .all) (c .before .loop .t - 1) 0 * c .before .before .args .w % c .before .before .args .m) ∙ c .before .loop .inv .1 .1 .0, known-next (c .before .before .args .m) (c .before .before .args .w) (c .before .before .pre .0) (c .before .loop .all) (c .before .loop .t) (c .before .loop .inv .0) (omega arith) (c .before .loop .inv .1 .1 .1))))
@@ -53,18 +41,5 @@ returns c = λ t h. c .before .loop .inv .1 .1 .1 t (omega arith)
 pub powers-spec : {M : Type 1} → statement M
 powers-spec =
     tie.close
-    (tie.spec
-    Inv-loop
-    μ-loop
-    loop-holds
-    sub-all
-    mul-all
-    array-read-all
-    mul-all-2
-    rem-all
-    mul-all-3
-    array-write-all
-    add-t
-    loop-less
-    loop-again
-    returns)
+    (tie.spec Inv-loop μ-loop loop-holds sub-all (λ c. search needs) array-read-all mul-all-2 rem-all (λ c. search needs) array-write-all
+    (λ c. search needs) (λ c. search needs) loop-again returns)

@@ -29,11 +29,4 @@ returns-2 c = simp (le-ltb _ _ (c .if1 .left))
 pub cell-spec : {M : Type 1} → statement M
 cell-spec =
     tie.close
-    (tie.spec
-    mul-result
-    add-result
-    mul-result-2
-    shared-slice-read-result
-    cast-result
-    returns
-    returns-2)
+    (tie.spec mul-result add-result mul-result-2 shared-slice-read-result cast-result returns returns-2)

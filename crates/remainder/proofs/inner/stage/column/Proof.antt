@@ -63,9 +63,6 @@ loop-again c =
     let o = c .before .before .one in
     (omega arith, (omega arith, (omega arith, (o .kept .1 .0 ∙ l .inv .1 .1 .1 .0, column-next (a .m) (a .r) (a .s) (l .b) (a .k) (a .apart) (a .v) (a .turns) (a .src .now) (a .dst .now) (l .dst) (o .last .1 .0) (l .i) (l .to) (s .pre .0) (l .inv .0) (l .inv .1 .0) (l .inv .1 .1 .1 .1) (o .ensures)))))
 
-same-length : tie.Need-same-length Inv-loop μ-loop
-same-length c = search needs
-
 returns : tie.Need-returns Inv-loop μ-loop
 returns c =
     let s = c .before .before .before .before in
@@ -77,16 +74,4 @@ returns c =
 pub column-spec : {M : Type 1} → statement M
 column-spec =
     tie.close
-    (tie.spec
-    Inv-loop
-    μ-loop
-    mul-width
-    loop-holds
-    one-requires
-    add-i
-    add-to
-    add-b
-    loop-less
-    loop-again
-    same-length
-    returns)
+    (tie.spec Inv-loop μ-loop mul-width loop-holds one-requires add-i add-to add-b loop-less loop-again (λ c. search needs) returns)

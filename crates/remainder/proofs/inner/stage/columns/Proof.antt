@@ -61,9 +61,6 @@ loop-again c =
     let o = c .before .before .column in
     (next-power (a .step) (a .m) (l .k) (l .v) (l .inv .0), (omega (arith, c .before .before .before .before .loop-test .taken), (o .kept .1 .0 ∙ l .inv .1 .1 .0, columns-next (a .s) (a .r) (a .n) (l .k) (value (a .m) (a .r) (a .apart) (l .v) (a .src .now) (a .turns)) (stepped (a .m) (a .r) (a .s) (a .apart) (a .step) (a .src .now) (a .turns)) (a .dst .now) (l .dst) (o .last .1 .0) (value-stepped (a .m) (a .r) (a .s) (a .apart) (a .step) (l .v) (l .k) (a .src .now) (a .turns) (c .before .before .before .before .loop-test .taken) (l .inv .0)) (l .inv .1 .1 .1) (o .ensures))))
 
-same-length : tie.Need-same-length Inv-loop μ-loop
-same-length c = search needs
-
 returns : tie.Need-returns Inv-loop μ-loop
 returns c =
     let s = c .before .before .before .before in
@@ -75,15 +72,4 @@ returns c =
 pub columns-spec : {M : Type 1} → statement M
 columns-spec =
     tie.close
-    (tie.spec
-    Inv-loop
-    μ-loop
-    loop-holds
-    column-requires
-    mul-v
-    rem-v
-    add-k
-    loop-less
-    loop-again
-    same-length
-    returns)
+    (tie.spec Inv-loop μ-loop loop-holds column-requires mul-v rem-v add-k loop-less loop-again (λ c. search needs) returns)

@@ -11,17 +11,11 @@ use Rattle.remainder.proofs.inner.stage.four.Tie as tie
 put-requires : tie.Need-put-requires
 put-requires c κs = let s = c .before .before in (omega (arith, s .pre .0), s .pre .1)
 
-add-put : tie.Need-add-put
-add-put c = search needs
-
 put-requires-2 : tie.Need-put-requires-2
 put-requires-2 c κs =
     let s = c .before .before .before .before .before .before in
     let a = s .args in
     (omega (arith, s .pre .0), subst (Storable (a .m) (a .r) (a .s) (a .to) (a .x) (a .turns)) (sym (c .before .before .before .put .kept .0)) (s .pre .1))
-
-add-put-2 : tie.Need-add-put-2
-add-put-2 c = search needs
 
 put-requires-3 : tie.Need-put-requires-3
 put-requires-3 c κs =
@@ -29,17 +23,11 @@ put-requires-3 c κs =
     let a = s .args in
     (omega (arith, s .pre .0), subst (Storable (a .m) (a .r) (a .s) (a .to) (a .x) (a .turns)) (sym (c .before .before .before .put2 .kept .0 ∙ c .before .before .before .before .before .before .before .put .kept .0)) (s .pre .1))
 
-add-put-3 : tie.Need-add-put-3
-add-put-3 c = search needs
-
 put-requires-4 : tie.Need-put-requires-4
 put-requires-4 c κs =
     let s = c .before .before .before .before .before .before .before .before .before .before .before .before .before .before in
     let a = s .args in
     (omega (arith, s .pre .0), subst (Storable (a .m) (a .r) (a .s) (a .to) (a .x) (a .turns)) (sym (c .before .before .before .put3 .kept .0 ∙ c .before .before .before .before .before .before .before .put2 .kept .0 ∙ c .before .before .before .before .before .before .before .before .before .before .before .put .kept .0)) (s .pre .1))
-
-same-length : tie.Need-same-length
-same-length c = search needs
 
 returns : tie.Need-returns
 returns c =
@@ -51,13 +39,5 @@ returns c =
 pub four-spec : {M : Type 1} → statement M
 four-spec =
     tie.close
-    (tie.spec
-    put-requires
-    add-put
-    put-requires-2
-    add-put-2
-    put-requires-3
-    add-put-3
-    put-requires-4
-    same-length
-    returns)
+    (tie.spec put-requires (λ c. search needs) put-requires-2 (λ c. search needs) put-requires-3 (λ c. search needs) put-requires-4
+    (λ c. search needs) returns)

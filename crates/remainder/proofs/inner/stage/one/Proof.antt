@@ -69,38 +69,20 @@ four-requires-8 c κs = (omega arith, four-ready _ _ _ _ _ _ _ _ _ _ (c .before 
 four-requires-9 : tie.Need-four-requires-9
 four-requires-9 c κs = (omega arith, four-ready _ _ _ _ _ _ _ _ _ _ (c .before .before .before .before .before .before .before .before .before .before .before .before .pre) 8 (is-eight (c .before .before .before .before .before .before .before .before .before .before .before .before .args .r) (c .before .before .before .before .before .before .before .before .before .before .before .before .pre .radix) (c .before .before .before .before .before .before .before .before .if3 .left) (c .before .before .before .before .before .before .before .if5 .left)) (c .before .before .before .before .before .before .row6 .result) (c .before .before .before .before .before .twiddled6 .result) (c .before .before .before .before .before .twiddled6 .ensures) _ (c .before .before .before .four8 .kept .0))
 
-same-length : tie.Need-same-length
-same-length c = search needs
-
 returns : tie.Need-returns
 returns c = few-stored _ _ _ _ _ _ _ _ _ _ (c .before .before .before .before .before .before .before .before .before .before .pre) 2 (c .before .before .before .before .before .before .if2 .taken) (c .before .before .before .before .before .row .result) (c .before .before .before .before .twiddled .result) _ _ (omega arith) (c .before .before .before .before .before .row .ensures) (c .before .before .before .before .twiddled .ensures) (c .before .before .four .ensures)
-
-same-length-2 : tie.Need-same-length-2
-same-length-2 c = search needs
 
 returns-2 : tie.Need-returns-2
 returns-2 c = few-stored _ _ _ _ _ _ _ _ _ _ (c .before .before .before .before .before .before .before .before .before .before .pre) 3 (is-three (c .before .before .before .before .before .before .before .before .before .before .args .r) (c .before .before .before .before .before .before .before .before .before .before .pre .radix) (c .before .before .before .before .before .before .before .if1 .taken) (c .before .before .before .before .before .before .if2 .left)) (c .before .before .before .before .before .row2 .result) (c .before .before .before .before .twiddled2 .result) _ _ (omega arith) (c .before .before .before .before .before .row2 .ensures) (c .before .before .before .before .twiddled2 .ensures) (c .before .before .four2 .ensures)
 
-same-length-3 : tie.Need-same-length-3
-same-length-3 c = search needs
-
 returns-3 : tie.Need-returns-3
 returns-3 c = few-stored _ _ _ _ _ _ _ _ _ _ (c .before .before .before .before .before .before .before .before .before .before .before .pre) 4 (c .before .before .before .before .before .before .if4 .taken) (c .before .before .before .before .before .row3 .result) (c .before .before .before .before .twiddled3 .result) _ _ (omega arith) (c .before .before .before .before .before .row3 .ensures) (c .before .before .before .before .twiddled3 .ensures) (c .before .before .four3 .ensures)
-
-same-length-4 : tie.Need-same-length-4
-same-length-4 c = search needs
 
 returns-4 : tie.Need-returns-4
 returns-4 c = many-stored _ _ _ _ _ _ _ _ _ _ (c .before .before .before .before .before .before .before .before .before .before .before .before .before .before .before .pre) 5 (omega (arith, c .before .before .before .before .before .before .before .before .before .before .before .before .if1 .left, c .before .before .before .before .before .before .before .before .before .before .before .if3 .taken, c .before .before .before .before .before .before .before .before .before .before .if4 .left)) (c .before .before .before .before .before .before .before .before .before .row4 .result) (c .before .before .before .before .before .before .before .before .twiddled4 .result) _ _ _ (c .before .before .before .before .before .before .before .before .before .row4 .ensures) (c .before .before .before .before .before .before .before .before .twiddled4 .ensures) (c .before .before .before .before .before .before .four4 .ensures) (c .before .before .four5 .ensures)
 
-same-length-5 : tie.Need-same-length-5
-same-length-5 c = search needs
-
 returns-5 : tie.Need-returns-5
 returns-5 c = many-stored _ _ _ _ _ _ _ _ _ _ (c .before .before .before .before .before .before .before .before .before .before .before .before .before .before .before .pre) 7 (c .before .before .before .before .before .before .before .before .before .before .if5 .taken) (c .before .before .before .before .before .before .before .before .before .row5 .result) (c .before .before .before .before .before .before .before .before .twiddled5 .result) _ _ _ (c .before .before .before .before .before .before .before .before .before .row5 .ensures) (c .before .before .before .before .before .before .before .before .twiddled5 .ensures) (c .before .before .before .before .before .before .four6 .ensures) (c .before .before .four7 .ensures)
-
-same-length-6 : tie.Need-same-length-6
-same-length-6 c = search needs
 
 returns-6 : tie.Need-returns-6
 returns-6 c = many-stored _ _ _ _ _ _ _ _ _ _ (c .before .before .before .before .before .before .before .before .before .before .before .before .before .before .before .pre) 8 (is-eight (c .before .before .before .before .before .before .before .before .before .before .before .before .before .before .before .args .r) (c .before .before .before .before .before .before .before .before .before .before .before .before .before .before .before .pre .radix) (c .before .before .before .before .before .before .before .before .before .before .before .if3 .left) (c .before .before .before .before .before .before .before .before .before .before .if5 .left)) (c .before .before .before .before .before .before .before .before .before .row6 .result) (c .before .before .before .before .before .before .before .before .twiddled6 .result) _ _ _ (c .before .before .before .before .before .before .before .before .before .row6 .ensures) (c .before .before .before .before .before .before .before .before .twiddled6 .ensures) (c .before .before .before .before .before .before .four8 .ensures) (c .before .before .four9 .ensures)
@@ -108,37 +90,8 @@ returns-6 c = many-stored _ _ _ _ _ _ _ _ _ _ (c .before .before .before .before
 pub one-spec : {M : Type 1} → statement M
 one-spec =
     tie.close
-    (tie.spec
-    row-requires
-    twiddled-requires
-    four-requires
-    row-requires-2
-    twiddled-requires-2
-    four-requires-2
-    row-requires-3
-    twiddled-requires-3
-    four-requires-3
-    row-requires-4
-    twiddled-requires-4
-    four-requires-4
-    four-requires-5
-    row-requires-5
-    twiddled-requires-5
-    four-requires-6
-    four-requires-7
-    row-requires-6
-    twiddled-requires-6
-    four-requires-8
-    four-requires-9
-    same-length
-    returns
-    same-length-2
-    returns-2
-    same-length-3
-    returns-3
-    same-length-4
-    returns-4
-    same-length-5
-    returns-5
-    same-length-6
-    returns-6)
+    (tie.spec row-requires twiddled-requires four-requires row-requires-2 twiddled-requires-2 four-requires-2 row-requires-3
+    twiddled-requires-3 four-requires-3 row-requires-4 twiddled-requires-4 four-requires-4 four-requires-5 row-requires-5
+    twiddled-requires-5 four-requires-6 four-requires-7 row-requires-6 twiddled-requires-6 four-requires-8 four-requires-9
+    (λ c. search needs) returns (λ c. search needs) returns-2 (λ c. search needs) returns-3 (λ c. search needs) returns-4
+    (λ c. search needs) returns-5 (λ c. search needs) returns-6)

@@ -5,9 +5,6 @@ use native.Mathlib.Omega.{arith}
 use Rattle.remainder.proofs.inner.stage.output.Statement.{statement}
 use Rattle.remainder.proofs.inner.stage.output.Tie as tie
 
-array-read-plus : tie.Need-array-read-plus
-array-read-plus c = search needs
-
 plus-requires : tie.Need-plus-requires
 plus-requires c κs = (c .pre .1 .1 .1 .1 .0 0 (c .pre .0), (c .pre .1 .0, (c .pre .1 .1 .0, (omega arith, c .pre .1 .1 .1))))
 
@@ -35,13 +32,5 @@ returns c = (c .plus7 .ensures .0, (sum-step (c .before .before .before .before 
 pub output-spec : {M : Type 1} → statement M
 output-spec =
     tie.close
-    (tie.spec
-    array-read-plus
-    plus-requires
-    plus-requires-2
-    plus-requires-3
-    plus-requires-4
-    plus-requires-5
-    plus-requires-6
-    plus-requires-7
-    returns)
+    (tie.spec (λ c. search needs) plus-requires plus-requires-2 plus-requires-3 plus-requires-4 plus-requires-5 plus-requires-6
+    plus-requires-7 returns)

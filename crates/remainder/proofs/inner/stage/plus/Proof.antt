@@ -12,15 +12,6 @@ use Rattle.remainder.proofs.inner.stage.plus.Tie as tie
 mul-t : tie.Need-mul-t
 mul-t c = omega (arith, small-product (c .before .args .p) (c .before .args .q) (c .before .pre .1 .1 .0) (c .before .pre .1 .1 .1 .0))
 
-rem-t : tie.Need-rem-t
-rem-t c = search needs
-
-mul-result : tie.Need-mul-result
-mul-result c = search needs
-
-array-read-result : tie.Need-array-read-result
-array-read-result c = search needs
-
 mul-result-2 : tie.Need-mul-result-2
 mul-result-2 c = omega (arith, (turn-lt (c .before .args .p) (c .before .args .q) (c .before .args .r) (c .if1 .taken) (c .before .pre .1 .0)))
 
@@ -33,9 +24,6 @@ mul-result-3 c = record { fits = product-fits _ _ (c .before .args .m) (c .befor
 add-result : tie.Need-add-result
 add-result c = record { fits = sum-fits (c .before .args .m) (c .before .args .sum) _ _ (c .before .pre .0) (c .before .pre .1 .1 .1 .1 .1 .0 (c .before .args .q) (c .if1 .taken)) (c .before .pre .1 .1 .1 .1 .1 .1 (c .before .args .p * c .before .args .q % c .before .args .r) (turn-lt (c .before .args .p) (c .before .args .q) (c .before .args .r) (c .if1 .taken) (c .before .pre .1 .0))) (c .before .pre .1 .1 .1 .1 .0 .small) }
 
-rem-result : tie.Need-rem-result
-rem-result c = search needs
-
 returns : tie.Need-returns
 returns c = (mod-lt _ (omega (arith, c .before .pre .1 .1 .1 .1 .0 .two)), simp (lt-ltb _ _ (c .if1 .taken)))
 
@@ -45,15 +33,5 @@ returns-2 c = (c .before .pre .0, simp (le-ltb _ _ (c .if1 .left)))
 pub plus-spec : {M : Type 1} → statement M
 plus-spec =
     tie.close
-    (tie.spec
-    mul-t
-    rem-t
-    mul-result
-    array-read-result
-    mul-result-2
-    array-read-result-2
-    mul-result-3
-    add-result
-    rem-result
-    returns
-    returns-2)
+    (tie.spec mul-t (λ c. search needs) (λ c. search needs) (λ c. search needs) mul-result-2 array-read-result-2 mul-result-3 add-result
+    (λ c. search needs) returns returns-2)

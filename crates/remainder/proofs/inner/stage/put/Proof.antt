@@ -9,9 +9,6 @@ use Rattle.remainder.proofs.inner.stage.put.Tie as tie
 output-requires : tie.Need-output-requires
 output-requires c κs = let h = c .before .before .pre in (h .1 .some, (h .1 .eight, (h .0, (h .1 .modulus, (h .1 .cells, h .1 .turning)))))
 
-cast-dst : tie.Need-cast-dst
-cast-dst c = search needs
-
 mul-dst : tie.Need-mul-dst
 mul-dst c = omega (arith, (c .before .before .before .pre .1 .writes _ (c .before .if1 .taken)))
 
@@ -24,9 +21,6 @@ mul-dst-2 c = omega (arith, (c .before .before .before .pre .1 .writes _ (c .bef
 slice-write-dst : tie.Need-slice-write-dst
 slice-write-dst c = (c .before .before .before .pre .1 .writes _ (c .before .if1 .taken))
 
-same-length : tie.Need-same-length
-same-length c = search needs
-
 returns : tie.Need-returns
 returns c = sym (simp (lt-ltb _ _ (c .before .if1 .taken), c .output .ensures .1))
 
@@ -36,13 +30,4 @@ returns-2 c = sym (simp (le-ltb _ _ (c .if1 .left)))
 pub put-spec : {M : Type 1} → statement M
 put-spec =
     tie.close
-    (tie.spec
-    output-requires
-    cast-dst
-    mul-dst
-    add-dst
-    mul-dst-2
-    slice-write-dst
-    same-length
-    returns
-    returns-2)
+    (tie.spec output-requires (λ c. search needs) mul-dst add-dst mul-dst-2 slice-write-dst (λ c. search needs) returns returns-2)

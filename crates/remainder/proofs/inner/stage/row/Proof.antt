@@ -37,13 +37,5 @@ returns c = eight-is (λ (q : ℕ). below (c .before .before .before .before .be
 pub row-spec : {M : Type 1} → statement M
 row-spec =
     tie.close
-    (tie.spec
-    cell-requires
-    cell-requires-2
-    cell-requires-3
-    cell-requires-4
-    cell-requires-5
-    cell-requires-6
-    cell-requires-7
-    cell-requires-8
+    (tie.spec cell-requires cell-requires-2 cell-requires-3 cell-requires-4 cell-requires-5 cell-requires-6 cell-requires-7 cell-requires-8
     returns)

@@ -9,42 +9,6 @@ use native.Mathlib.Omega.{arith}
 use Rattle.remainder.proofs.inner.stage.twiddled.Statement.{statement}
 use Rattle.remainder.proofs.inner.stage.twiddled.Tie as tie
 
-next-requires : tie.Need-next-requires
-next-requires c κs = search needs
-
-next-requires-2 : tie.Need-next-requires-2
-next-requires-2 c κs = search needs
-
-next-requires-3 : tie.Need-next-requires-3
-next-requires-3 c κs = search needs
-
-next-requires-4 : tie.Need-next-requires-4
-next-requires-4 c κs = search needs
-
-next-requires-5 : tie.Need-next-requires-5
-next-requires-5 c κs = search needs
-
-next-requires-6 : tie.Need-next-requires-6
-next-requires-6 c κs = search needs
-
-array-read-t14 : tie.Need-array-read-t14
-array-read-t14 c = search needs
-
-scaled-requires : tie.Need-scaled-requires
-scaled-requires c κs = search needs
-
-scaled-requires-2 : tie.Need-scaled-requires-2
-scaled-requires-2 c κs = search needs
-
-scaled-requires-3 : tie.Need-scaled-requires-3
-scaled-requires-3 c κs = search needs
-
-scaled-requires-4 : tie.Need-scaled-requires-4
-scaled-requires-4 c κs = search needs
-
-scaled-requires-5 : tie.Need-scaled-requires-5
-scaled-requires-5 c κs = search needs
-
 scaled-requires-6 : tie.Need-scaled-requires-6
 scaled-requires-6 c κs = let s = c .before .before .before .before .before .before .before .before .before .before .before in (omega arith, (c .before .before .before .before .before .before .next5 .ensures .0, s .pre .1 .1))
 
@@ -76,19 +40,6 @@ returns c = let s = c .before .before .before .before .before .before .before .b
 pub twiddled-spec : {M : Type 1} → statement M
 twiddled-spec =
     tie.close
-    (tie.spec
-    next-requires
-    next-requires-2
-    next-requires-3
-    next-requires-4
-    next-requires-5
-    next-requires-6
-    array-read-t14
-    scaled-requires
-    scaled-requires-2
-    scaled-requires-3
-    scaled-requires-4
-    scaled-requires-5
-    scaled-requires-6
-    scaled-requires-7
-    returns)
+    (tie.spec (λ c κs. search needs) (λ c κs. search needs) (λ c κs. search needs) (λ c κs. search needs) (λ c κs. search needs)
+    (λ c κs. search needs) (λ c. search needs) (λ c κs. search needs) (λ c κs. search needs) (λ c κs. search needs) (λ c κs. search needs)
+    (λ c κs. search needs) scaled-requires-6 scaled-requires-7 returns)

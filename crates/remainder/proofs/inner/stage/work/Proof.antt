@@ -12,26 +12,14 @@ use native.Mathlib.Omega.{arith}
 use Rattle.remainder.proofs.inner.stage.work.Statement.{statement}
 use Rattle.remainder.proofs.inner.stage.work.Tie as tie
 
-stride-requires : tie.Need-stride-requires
-stride-requires c κs = search needs
-
 element-copy-out-r : tie.Need-element-copy-out-r
 element-copy-out-r c = let a = c .before .before .before in omega (arith, a .pre .known, plan-order (a .args .t1) (a .pre .planned) .few)
-
-cast-r : tie.Need-cast-r
-cast-r c = search needs
 
 div-apart : tie.Need-div-apart
 div-apart c = let a = c .before .before .before .before in omega (arith, plan-radix-bounds (a .args .t1) (a .pre .planned) (a .args .j) (a .pre .known))
 
 div-n : tie.Need-div-n
 div-n c = let a = c .before .before .before .before in rw (c .before .stride .ensures, ← use-stride (a .args .t1) (a .pre .planned) (a .args .j) (le-of-lt (a .pre .known))) (use-stride-some (a .args .t1) (a .pre .planned) (a .args .j) (a .pre .known))
-
-power-requires : tie.Need-power-requires
-power-requires c κs = search needs
-
-power-requires-2 : tie.Need-power-requires-2
-power-requires-2 c κs = search needs
 
 powers-requires : tie.Need-powers-requires
 powers-requires c κs = let a = c .before .before .before .before .before .before in (a .pre .modulus .two, (a .pre .modulus .small, below-mod (c .power2 .result) _ (a .args .m) (c .power2 .ensures) (omega (arith, a .pre .modulus .two))))
@@ -43,9 +31,6 @@ columns-requires c κs =
     let two : 0 < a .args .m = omega (arith, h .modulus .two) in
     (h .modulus, (below-mod _ _ (a .args .m) (c .before .before .before .power .ensures) two, ((λ q l. below-mod _ _ (a .args .m) (c .before .powers .ensures q l) two), (work-shape (a .args .t1) (a .args .j) (a .args .m) (a .args .w) (a .args .src .now) _ h _ _ (c .before .before .before .before .before .stride .ensures) refl, (h .wide ∙ sym (h .long), h .cells)))))
 
-same-length : tie.Need-same-length
-same-length c = search needs
-
 returns : tie.Need-returns
 returns c =
     let a = c .before .before .before .before .before .before .before .before .before .before .before in
@@ -54,15 +39,5 @@ returns c =
 pub work-spec : {M : Type 1} → statement M
 work-spec =
     tie.close
-    (tie.spec
-    stride-requires
-    element-copy-out-r
-    cast-r
-    div-apart
-    div-n
-    power-requires
-    power-requires-2
-    powers-requires
-    columns-requires
-    same-length
-    returns)
+    (tie.spec (λ c κs. search needs) element-copy-out-r (λ c. search needs) div-apart div-n (λ c κs. search needs) (λ c κs. search needs)
+    powers-requires columns-requires (λ c. search needs) returns)

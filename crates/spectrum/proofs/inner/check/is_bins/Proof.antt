@@ -25,8 +25,4 @@ returns-3 c =
 pub is-bins-spec : {M : Type 1} → statement M
 is-bins-spec =
     tie.close
-    (tie.spec
-    returns
-    returns-2
-    sub-result
-    returns-3)
+    (tie.spec returns returns-2 sub-result returns-3)

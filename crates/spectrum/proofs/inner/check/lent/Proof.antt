@@ -5,17 +5,8 @@ use Rattle.spectrum.proofs.Verdicts.{numbers-decide, sizes-refuse}
 use Rattle.spectrum.proofs.inner.check.lent.Statement.{statement}
 use Rattle.spectrum.proofs.inner.check.lent.Tie as tie
 
-sizes-requires : tie.Need-sizes-requires
-sizes-requires c κs = search needs
-
 enum-told : tie.Need-enum-told
 enum-told c = search needs
-
-numbers-requires : tie.Need-numbers-requires
-numbers-requires c κs = search needs
-
-enum-known-why : tie.Need-enum-known-why
-enum-known-why c = search needs
 
 returns : tie.Need-returns
 returns c =
@@ -30,10 +21,4 @@ returns-2 c =
 pub lent-spec : {M : Type 1} → statement M
 lent-spec =
     tie.close
-    (tie.spec
-    sizes-requires
-    enum-told
-    numbers-requires
-    enum-known-why
-    returns
-    returns-2)
+    (tie.spec (λ c κs. search needs) enum-told (λ c κs. search needs) (λ c. search needs) returns returns-2)

@@ -21,9 +21,6 @@ returns-4 c = let a = c .before .before .before .before .before .args in not-ord
 returns-5 : tie.Need-returns-5
 returns-5 c = let a = c .before .before .before .before .before .before .args in no-bin (a .spectrum .now) (a .lo) (a .hi) (c .before .before .before .before .if1 .left) (c .before .before .before .if2 .left) (c .before .before .if3 .left) (c .before .if4 .left) (c .if5 .taken)
 
-first-unfit-requires : tie.Need-first-unfit-requires
-first-unfit-requires c κs = search needs
-
 returns-6 : tie.Need-returns-6
 unfolding ofBits
 returns-6 c = let a = c .before .before .before .before .before .before .before .before .args in large-bin (a .spectrum .now) (a .lo) (a .hi) (c .before .before .before .before .before .before .if1 .left) (c .before .before .before .before .before .if2 .left) (c .before .before .before .before .if3 .left) (c .before .before .before .if4 .left) (c .before .before .if5 .left) _ (c .before .first-unfit .ensures 48 refl) (c .if6 .taken)
@@ -35,12 +32,4 @@ returns-7 c = let a = c .before .before .before .before .before .before .before 
 pub lent-bins-spec : {M : Type 1} → statement M
 lent-bins-spec =
     tie.close
-    (tie.spec
-    returns
-    returns-2
-    returns-3
-    returns-4
-    returns-5
-    first-unfit-requires
-    returns-6
-    returns-7)
+    (tie.spec returns returns-2 returns-3 returns-4 returns-5 (λ c κs. search needs) returns-6 returns-7)

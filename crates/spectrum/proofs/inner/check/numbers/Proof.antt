@@ -6,24 +6,12 @@ use Rattle.spectrum.proofs.Verdicts.{large-number, stage-twiddle, end-t
 use Rattle.spectrum.proofs.inner.check.numbers.Statement.{statement}
 use Rattle.spectrum.proofs.inner.check.numbers.Tie as tie
 
-first-unfit-requires : tie.Need-first-unfit-requires
-first-unfit-requires c κs = search needs
-
 returns : tie.Need-returns
 returns c = let a = c .before .before .before .before .before .args in λ k e. large-number k (a .input .now) (a .stage .now) (a .end .now) _ (c .before .first-unfit .ensures k e) (c .if1 .taken)
-
-first-unfit-requires-2 : tie.Need-first-unfit-requires-2
-first-unfit-requires-2 c κs = search needs
 
 returns-2 : tie.Need-returns-2
 unfolding ofBits
 returns-2 c = let a = c .before .before .before .before .before .before .before .args in λ k e. stage-twiddle k (a .input .now) (a .stage .now) (a .end .now) _ (c .before .before .before .first-unfit .ensures k e) (c .before .before .if1 .left) _ (c .before .first-unfit2 .ensures 0 refl) (c .if2 .taken)
-
-first-unfit-requires-3 : tie.Need-first-unfit-requires-3
-first-unfit-requires-3 c κs = search needs
-
-add-t13 : tie.Need-add-t13
-add-t13 c = search needs
 
 returns-3 : tie.Need-returns-3
 unfolding ofBits
@@ -36,12 +24,4 @@ returns-4 c = let a = c .before .before .before .before .before .before .before 
 pub numbers-spec : {M : Type 1} → statement M
 numbers-spec =
     tie.close
-    (tie.spec
-    first-unfit-requires
-    returns
-    first-unfit-requires-2
-    returns-2
-    first-unfit-requires-3
-    add-t13
-    returns-3
-    returns-4)
+    (tie.spec (λ c κs. search needs) returns (λ c κs. search needs) returns-2 (λ c κs. search needs) (λ c. search needs) returns-3 returns-4)

@@ -11,14 +11,8 @@ use Rattle.spectrum.proofs.Verdicts.{unplanned, unpacked, no-input, no-
 use Rattle.spectrum.proofs.inner.check.sizes.Statement.{statement}
 use Rattle.spectrum.proofs.inner.check.sizes.Tie as tie
 
-is-planned-requires : tie.Need-is-planned-requires
-is-planned-requires c κs = search needs
-
 returns : tie.Need-returns
 returns c = let a = c .before .before .args in unplanned (a .plan) (a .width) (a .input) (a .output) (a .scratch) (a .stage) (a .end) (sym (c .before .is-planned .ensures) ∙ not-true _ (c .if1 .taken))
-
-is-width-requires : tie.Need-is-width-requires
-is-width-requires c κs = search needs
 
 returns-2 : tie.Need-returns-2
 returns-2 c = let a = c .before .before .before .before .args in unpacked (a .plan) (a .width) (a .input) (a .output) (a .scratch) (a .stage) (a .end) (sym (c .before .before .before .is-planned .ensures) ∙ not-false _ (c .before .before .if1 .left)) (sym (c .before .is-width .ensures) ∙ not-true _ (c .if2 .taken))
@@ -62,19 +56,5 @@ returns-8 c = let a = c .before .before .before .before .before .before .before 
 pub sizes-spec : {M : Type 1} → statement M
 sizes-spec =
     tie.close
-    (tie.spec
-    is-planned-requires
-    returns
-    is-width-requires
-    returns-2
-    returns-3
-    returns-4
-    mul-if5
-    returns-5
-    twiddle-start-requires
-    mul-if6
-    returns-6
-    end-count-requires
-    mul-if7
-    returns-7
-    returns-8)
+    (tie.spec (λ c κs. search needs) returns (λ c κs. search needs) returns-2 returns-3 returns-4 mul-if5 returns-5 twiddle-start-requires
+    mul-if6 returns-6 end-count-requires mul-if7 returns-7 returns-8)

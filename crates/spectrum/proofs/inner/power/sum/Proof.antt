@@ -24,12 +24,6 @@ add-get c = omega (arith, c .before .before .before .pre .0, c .before .before .
 get-requires : tie.Need-get-requires Inv-loop μ-loop
 get-requires c κs = omega (arith, c .before .before .before .pre .0, c .loop-test .taken)
 
-add-k : tie.Need-add-k Inv-loop μ-loop
-add-k c = search needs
-
-loop-less : tie.Need-loop-less Inv-loop μ-loop
-loop-less c = search needs
-
 loop-again : tie.Need-loop-again Inv-loop μ-loop
 loop-again c =
     let l = c .before .before .before .before .loop in
@@ -46,13 +40,4 @@ returns c =
 pub sum-spec : {M : Type 1} → statement M
 sum-spec =
     tie.close
-    (tie.spec
-    Inv-loop
-    μ-loop
-    loop-holds
-    add-get
-    get-requires
-    add-k
-    loop-less
-    loop-again
-    returns)
+    (tie.spec Inv-loop μ-loop loop-holds add-get get-requires (λ c. search needs) (λ c. search needs) loop-again returns)

@@ -8,15 +8,6 @@ use borrow.Author.Needs.{needs}
 use Rattle.spectrum.proofs.inner.stages.prepare.Statement.{statement}
 use Rattle.spectrum.proofs.inner.stages.prepare.Tie as tie
 
-add-bins : tie.Need-add-bins
-add-bins c = search needs
-
-mul-bins : tie.Need-mul-bins
-mul-bins c = search needs
-
-slice-relend-prefix-preprocess-ifft : tie.Need-slice-relend-prefix-preprocess-ifft
-slice-relend-prefix-preprocess-ifft c = search needs
-
 slice-aggregate-preprocess-ifft : tie.Need-slice-aggregate-preprocess-ifft
 slice-aggregate-preprocess-ifft c = let s = c .before .before .before .before in sym (length-take-le _ _ (omega (arith, s .pre .1, s .pre .0 .some)))
 
@@ -25,20 +16,11 @@ preprocess-ifft-requires c κs =
     let s = c .before .before .before .before in
     (record { some = s .pre .0 .some; few = s .pre .0 .few; long = length-take-le _ _ (omega (arith, s .pre .1, s .pre .0 .some)); lent = s .pre .0 .lent }, omega (arith, s .pre .0 .long))
 
-mul-words : tie.Need-mul-words
-mul-words c = search needs
-
-slice-relend-prefix-conjugate : tie.Need-slice-relend-prefix-conjugate
-slice-relend-prefix-conjugate c = search needs
-
 slice-aggregate-conjugate : tie.Need-slice-aggregate-conjugate
 slice-aggregate-conjugate c = let s = c .before .before .before .before .before .before .before .before in sym (length-take-le _ _ (omega (arith, length-front (s .args .scratch .now) (c .before .before .before .preprocess-ifft .last .1 .1 .0) (2 * (s .args .h + 1)) (c .before .before .before .preprocess-ifft .kept .1 .1 .0), s .pre .1)))
 
 conjugate-requires : tie.Need-conjugate-requires
 conjugate-requires c κs = let s = c .before .before .before .before .before .before .before .before in (s .pre .0 .few, length-take-le _ _ (omega (arith, length-front (s .args .scratch .now) (c .before .before .before .preprocess-ifft .last .1 .1 .0) (2 * (s .args .h + 1)) (c .before .before .before .preprocess-ifft .kept .1 .1 .0), s .pre .1)))
-
-same-length : tie.Need-same-length
-same-length c = search needs
 
 returns : tie.Need-returns
 returns c =
@@ -48,15 +30,5 @@ returns c =
 pub prepare-spec : {M : Type 1} → statement M
 prepare-spec =
     tie.close
-    (tie.spec
-    add-bins
-    mul-bins
-    slice-relend-prefix-preprocess-ifft
-    slice-aggregate-preprocess-ifft
-    preprocess-ifft-requires
-    mul-words
-    slice-relend-prefix-conjugate
-    slice-aggregate-conjugate
-    conjugate-requires
-    same-length
-    returns)
+    (tie.spec (λ c. search needs) (λ c. search needs) (λ c. search needs) slice-aggregate-preprocess-ifft preprocess-ifft-requires
+    (λ c. search needs) (λ c. search needs) slice-aggregate-conjugate conjugate-requires (λ c. search needs) returns)

@@ -8,17 +8,8 @@ use Rattle.spectrum.proofs.Scratch.{data-length, front-room, stages-mad
 use Rattle.spectrum.proofs.inner.stages.stages.Statement.{statement}
 use Rattle.spectrum.proofs.inner.stages.stages.Tie as tie
 
-mul-words : tie.Need-mul-words
-mul-words c = search needs
-
-slice-relend-prefix-all : tie.Need-slice-relend-prefix-all
-slice-relend-prefix-all c = search needs
-
 slice-aggregate-all : tie.Need-slice-aggregate-all
 slice-aggregate-all c = sym (length-take-le _ _ (omega (arith, c .before .before .before .before .before .pre .room)))
-
-slice-relend-prefix-all-2 : tie.Need-slice-relend-prefix-all-2
-slice-relend-prefix-all-2 c = search needs
 
 slice-aggregate-all-2 : tie.Need-slice-aggregate-all-2
 slice-aggregate-all-2 c = sym (length-take-le _ _ (c .before .before .before .before .before .before .pre .other))
@@ -35,9 +26,6 @@ all-requires c κs =
       lent = s .pre .lent;
     }
 
-slice-reshare-prefix-paste : tie.Need-slice-reshare-prefix-paste
-slice-reshare-prefix-paste c = search needs
-
 slice-aggregate-paste : tie.Need-slice-aggregate-paste
 slice-aggregate-paste c = sym (front-room (c .before .before .before .before .before .before .before .before .before .before .before .before .before .before .args .plan .half) (c .before .before .before .before .before .before .before .all .last .1 .1 .1 .0) (c .before .before .before .before .before .before .before .before .before .before .before .before .before .before .args .other .now) (c .before .before .before .before .before .before .before .all .kept .1 .1 .1 .0) (c .before .before .before .before .before .before .before .before .before .before .before .before .before .before .pre .other) .1)
 
@@ -49,24 +37,12 @@ paste-requires c κs =
     let b = front-room (s .args .plan .half) (o .last .1 .1 .1 .0) (s .args .other .now) (o .kept .1 .1 .1 .0) (s .pre .other) in
     omega (arith, a .0, b .1, s .pre .room)
 
-same-length : tie.Need-same-length
-same-length c = search needs
-
-same-length-2 : tie.Need-same-length-2
-same-length-2 c = search needs
-
 returns : tie.Need-returns
 returns c =
     let s = c .before .before .before .before .before .before .before .before .before .before .before .before .before .before .before .before .before .before in
     let a = s .args in
     let o = c .before .before .before .before .before .before .before .before .before .before .before .all in
     (o .ensures .1 .1, stages-made (a .plan) (a .width) (a .twiddles .now) (dataOf (a .plan .half) (a .scratch .now)) (a .scratch .now) (a .other .now) (data-length (a .plan .half) (a .scratch .now) (s .pre .room)) (s .pre .room) (s .pre .other) (c .before .before .before .before .before .if1 .taken) _ _ _ (o .ensures .0) (o .ensures .1 .0) (c .before .before .paste .ensures))
-
-same-length-3 : tie.Need-same-length-3
-same-length-3 c = search needs
-
-same-length-4 : tie.Need-same-length-4
-same-length-4 c = search needs
 
 returns-2 : tie.Need-returns-2
 returns-2 c =
@@ -78,19 +54,6 @@ returns-2 c =
 pub stages-spec : {M : Type 1} → statement M
 stages-spec =
     tie.close
-    (tie.spec
-    mul-words
-    slice-relend-prefix-all
-    slice-aggregate-all
-    slice-relend-prefix-all-2
-    slice-aggregate-all-2
-    all-requires
-    slice-reshare-prefix-paste
-    slice-aggregate-paste
-    paste-requires
-    same-length
-    same-length-2
-    returns
-    same-length-3
-    same-length-4
-    returns-2)
+    (tie.spec (λ c. search needs) (λ c. search needs) slice-aggregate-all (λ c. search needs) slice-aggregate-all-2 all-requires
+    (λ c. search needs) slice-aggregate-paste paste-requires (λ c. search needs) (λ c. search needs) returns (λ c. search needs)
+    (λ c. search needs) returns-2)

@@ -7,17 +7,8 @@ use Rattle.spectrum.proofs.Scratch.{front-room, stages-made, stages-non
 use Rattle.spectrum.proofs.inner.stages.stages_from.Statement.{statement}
 use Rattle.spectrum.proofs.inner.stages.stages_from.Tie as tie
 
-mul-words : tie.Need-mul-words
-mul-words c = search needs
-
-slice-relend-prefix-all-from : tie.Need-slice-relend-prefix-all-from
-slice-relend-prefix-all-from c = search needs
-
 slice-aggregate-all-from : tie.Need-slice-aggregate-all-from
 slice-aggregate-all-from c = sym (length-take-le _ _ (omega (arith, c .before .before .before .before .before .before .pre .0 .room)))
-
-slice-relend-prefix-all-from-2 : tie.Need-slice-relend-prefix-all-from-2
-slice-relend-prefix-all-from-2 c = search needs
 
 slice-aggregate-all-from-2 : tie.Need-slice-aggregate-all-from-2
 slice-aggregate-all-from-2 c = sym (length-take-le _ _ (c .before .before .before .before .before .before .before .pre .0 .other))
@@ -36,9 +27,6 @@ all-from-requires c κs =
       length-take-le _ _ (omega (arith, s .pre .0 .room)) ∙ sym (s .pre .1),
     )
 
-slice-reshare-prefix-paste : tie.Need-slice-reshare-prefix-paste
-slice-reshare-prefix-paste c = search needs
-
 slice-aggregate-paste : tie.Need-slice-aggregate-paste
 slice-aggregate-paste c = sym (front-room (c .before .before .before .before .before .before .before .before .before .before .before .before .before .before .before .args .plan .half) (c .before .before .before .before .before .before .before .all-from .last .1 .1 .1 .1 .0) (c .before .before .before .before .before .before .before .before .before .before .before .before .before .before .before .args .other .now) (c .before .before .before .before .before .before .before .all-from .kept .1 .1 .1 .1 .0) (c .before .before .before .before .before .before .before .before .before .before .before .before .before .before .before .pre .0 .other) .1)
 
@@ -50,24 +38,12 @@ paste-requires c κs =
     let b = front-room (s .args .plan .half) (o .last .1 .1 .1 .1 .0) (s .args .other .now) (o .kept .1 .1 .1 .1 .0) (s .pre .0 .other) in
     omega (arith, a .0, b .1, s .pre .0 .room)
 
-same-length : tie.Need-same-length
-same-length c = search needs
-
-same-length-2 : tie.Need-same-length-2
-same-length-2 c = search needs
-
 returns : tie.Need-returns
 returns c =
     let s = c .before .before .before .before .before .before .before .before .before .before .before .before .before .before .before .before .before .before .before in
     let a = s .args in
     let o = c .before .before .before .before .before .before .before .before .before .before .before .all-from in
     (o .ensures .1 .1, stages-made (a .plan) (a .width) (a .twiddles .now) (a .input .now) (a .scratch .now) (a .other .now) (s .pre .1) (s .pre .0 .room) (s .pre .0 .other) (c .before .before .before .before .before .if1 .taken) _ _ _ (o .ensures .0) (o .ensures .1 .0) (c .before .before .paste .ensures))
-
-same-length-3 : tie.Need-same-length-3
-same-length-3 c = search needs
-
-same-length-4 : tie.Need-same-length-4
-same-length-4 c = search needs
 
 returns-2 : tie.Need-returns-2
 returns-2 c =
@@ -79,19 +55,6 @@ returns-2 c =
 pub stages-from-spec : {M : Type 1} → statement M
 stages-from-spec =
     tie.close
-    (tie.spec
-    mul-words
-    slice-relend-prefix-all-from
-    slice-aggregate-all-from
-    slice-relend-prefix-all-from-2
-    slice-aggregate-all-from-2
-    all-from-requires
-    slice-reshare-prefix-paste
-    slice-aggregate-paste
-    paste-requires
-    same-length
-    same-length-2
-    returns
-    same-length-3
-    same-length-4
-    returns-2)
+    (tie.spec (λ c. search needs) (λ c. search needs) slice-aggregate-all-from (λ c. search needs) slice-aggregate-all-from-2
+    all-from-requires (λ c. search needs) slice-aggregate-paste paste-requires (λ c. search needs) (λ c. search needs) returns
+    (λ c. search needs) (λ c. search needs) returns-2)

@@ -7,38 +7,17 @@ use Rattle.spectrum.proofs.Transforms.{plan-some, plan-few, plan-twice,
 use Rattle.spectrum.proofs.inner.transform.inverse.Statement.{statement}
 use Rattle.spectrum.proofs.inner.transform.inverse.Tie as tie
 
-invert-requires : tie.Need-invert-requires
-invert-requires c κs = search needs
-
 fetch-requires : tie.Need-fetch-requires
 fetch-requires c κs =
     let s = c .before .before .before .before .before .before .before .before .before .before .before .before .before .before in
     let i = c .before .before .before .before .before .before .invert in
     (plan-few (s .args .plan) (s .pre .planned), omega (arith, i .kept .1 .1 .1 .1 .0, s .pre .room), omega (arith, i .kept .1 .1 .1 .0, s .pre .samples, plan-twice (s .args .plan) (s .pre .planned)))
 
-mul-words : tie.Need-mul-words
-mul-words c = search needs
-
-mul-clear : tie.Need-mul-clear
-mul-clear c = search needs
-
 sub-clear : tie.Need-sub-clear
 sub-clear c = let s = c .before .before .before .before .before .before .before .before .before .before .before .before .before .before .before .before .before .before in omega (arith, c .before .before .before .fetch .kept .1 .1 .0, c .before .before .before .before .before .before .before .before .before .before .invert .kept .1 .1 .1 .0, s .pre .samples, plan-twice (s .args .plan) (s .pre .planned))
 
 part-clear-start : tie.Need-part-clear-start
 part-clear-start c = sub-clear c
-
-part-clear-end : tie.Need-part-clear-end
-part-clear-end c = search needs
-
-clear-requires : tie.Need-clear-requires
-clear-requires c κs = search needs
-
-same-length : tie.Need-same-length
-same-length c = search needs
-
-same-length-2 : tie.Need-same-length-2
-same-length-2 c = search needs
 
 returns : tie.Need-returns
 returns c =
@@ -50,15 +29,5 @@ returns c =
 pub inverse-spec : {M : Type 1} → statement M
 inverse-spec =
     tie.close
-    (tie.spec
-    invert-requires
-    fetch-requires
-    mul-words
-    mul-clear
-    sub-clear
-    part-clear-start
-    part-clear-end
-    clear-requires
-    same-length
-    same-length-2
-    returns)
+    (tie.spec (λ c κs. search needs) fetch-requires (λ c. search needs) (λ c. search needs) sub-clear part-clear-start (λ c. search needs)
+    (λ c κs. search needs) (λ c. search needs) (λ c. search needs) returns)

@@ -26,12 +26,6 @@ restore-requires c κs =
     let o = c .before .before .before .before .before .before .stages in
     (plan-few (s .args .plan) (s .pre .planned), omega (arith, o .kept .1 .1 .0, c .before .before .before .before .before .before .before .before .before .before .before .prepare .kept .1 .0, s .pre .room), omega (arith, o .kept .1 .1 .1 .0, s .pre .samples, plan-twice (s .args .plan) (s .pre .planned)))
 
-same-length : tie.Need-same-length
-same-length c = search needs
-
-same-length-2 : tie.Need-same-length-2
-same-length-2 c = search needs
-
 returns : tie.Need-returns
 returns c =
     let s = c .before .before .before .before .before .before .before .before .before .before .before .before .before .before .before .before .before .before .before .before .before .before .before in
@@ -42,10 +36,4 @@ returns c =
 pub invert-spec : {M : Type 1} → statement M
 invert-spec =
     tie.close
-    (tie.spec
-    prepare-requires
-    stages-requires
-    restore-requires
-    same-length
-    same-length-2
-    returns)
+    (tie.spec prepare-requires stages-requires restore-requires (λ c. search needs) (λ c. search needs) returns)

@@ -6,15 +6,9 @@ use Rattle.stage.proofs.Verdicts.{large-number, large-twiddle, all-fit}
 use Rattle.stage.proofs.inner.check.numbers.Statement.{statement}
 use Rattle.stage.proofs.inner.check.numbers.Tie as tie
 
-first-unfit-requires : tie.Need-first-unfit-requires
-first-unfit-requires c κs = search needs
-
 returns : tie.Need-returns
 unfolding ofBits
 returns c = let a = c .before .before .before .before .args in large-number (a .input .now) (a .twiddles .now) _ (c .before .first-unfit .ensures 48 refl) (c .if1 .taken)
-
-first-unfit-requires-2 : tie.Need-first-unfit-requires-2
-first-unfit-requires-2 c κs = search needs
 
 returns-2 : tie.Need-returns-2
 unfolding ofBits
@@ -31,9 +25,4 @@ returns-3 c =
 pub numbers-spec : {M : Type 1} → statement M
 numbers-spec =
     tie.close
-    (tie.spec
-    first-unfit-requires
-    returns
-    first-unfit-requires-2
-    returns-2
-    returns-3)
+    (tie.spec (λ c κs. search needs) returns (λ c κs. search needs) returns-2 returns-3)

@@ -9,9 +9,6 @@ use Rattle.stage.proofs.Verdicts.{unplanned, unknown, unpacked, no-inpu
 use Rattle.stage.proofs.inner.check.sizes.Statement.{statement}
 use Rattle.stage.proofs.inner.check.sizes.Tie as tie
 
-is-planned-requires : tie.Need-is-planned-requires
-is-planned-requires c κs = search needs
-
 returns : tie.Need-returns
 returns c =
     let a = c .before .before .args in
@@ -22,9 +19,6 @@ returns-2 c =
     let a = c .before .before .before .before .args in
     let planned = sym (c .before .before .before .is-planned .ensures) ∙ not-false _ (c .before .before .if1 .left) in
     unknown (a .plan) (a .number) (a .width) (a .input) (a .output) (a .twiddles) planned (c .if2 .taken)
-
-is-width-requires : tie.Need-is-width-requires
-is-width-requires c κs = search needs
 
 returns-3 : tie.Need-returns-3
 returns-3 c =
@@ -41,9 +35,6 @@ returns-4 c =
     let planned = sym (c .before .before .before .before .before .before .before .is-planned .ensures) ∙ not-false _ (c .before .before .before .before .before .before .if1 .left) in
     let width = sym (c .before .before .before .is-width .ensures) ∙ not-false _ (c .before .before .if3 .left) in
     no-input (a .plan) (a .number) (a .width) (a .input) (a .output) (a .twiddles) planned (c .before .before .before .before .if2 .left) width (c .if4 .taken)
-
-mul-if5 : tie.Need-mul-if5
-mul-if5 c = search needs
 
 returns-5 : tie.Need-returns-5
 returns-5 c =
@@ -80,17 +71,5 @@ returns-7 c =
 pub sizes-spec : {M : Type 1} → statement M
 sizes-spec =
     tie.close
-    (tie.spec
-    is-planned-requires
-    returns
-    returns-2
-    is-width-requires
-    returns-3
-    mul-if4
-    returns-4
-    mul-if5
-    returns-5
-    twiddle-count-requires
-    mul-if6
-    returns-6
-    returns-7)
+    (tie.spec (λ c κs. search needs) returns returns-2 (λ c κs. search needs) returns-3 mul-if4 returns-4 (λ c. search needs) returns-5
+    twiddle-count-requires mul-if6 returns-6 returns-7)

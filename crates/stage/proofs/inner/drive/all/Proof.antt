@@ -22,9 +22,6 @@ later-requires c κs =
     let s = c .before .before .before .before .before .before .before .before .before .before .before .before in
     (drivable-as (s .pre) refl (c .before .before .before .before .one .kept .1 .1 .1 .1 .0), omega (arith, c .before .before .before .before .before .before .before .if1 .taken))
 
-result-in-requires : tie.Need-result-in-requires
-result-in-requires c κs = search needs
-
 same-length : tie.Need-same-length
 same-length c = ⊎-elim (λ e. ap length (e .13) ∙ e .8 .kept .1 .1 .0) (λ e. ap length (e .1)) (c .before .if1 .came)
 
@@ -51,10 +48,4 @@ returns c =
 pub all-spec : {M : Type 1} → statement M
 all-spec =
     tie.close
-    (tie.spec
-    one-requires
-    later-requires
-    result-in-requires
-    same-length
-    same-length-2
-    returns)
+    (tie.spec one-requires later-requires (λ c κs. search needs) same-length same-length-2 returns)

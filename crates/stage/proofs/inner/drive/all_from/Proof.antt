@@ -23,12 +23,6 @@ later-requires c κs =
     let s = c .before .before .before .before .before .before .before .before .before .before .before .before in
     (drivable-as (s .pre .0) (s .pre .1) (c .before .before .before .before .one .kept .1 .1 .1 .1 .0), omega (arith, c .before .before .before .before .before .before .if1 .taken))
 
-paste-requires : tie.Need-paste-requires
-paste-requires c κs = search needs
-
-result-in-requires : tie.Need-result-in-requires
-result-in-requires c κs = search needs
-
 same-length : tie.Need-same-length
 same-length c = ⊎-elim (λ e. ap length (e .12) ∙ e .7 .kept .1 .1 .0) (λ e. ap length (e .5) ∙ e .2 .kept .1 .0) (c .before .if1 .came)
 
@@ -55,11 +49,4 @@ returns c =
 pub all-from-spec : {M : Type 1} → statement M
 all-from-spec =
     tie.close
-    (tie.spec
-    one-requires
-    later-requires
-    paste-requires
-    result-in-requires
-    same-length
-    same-length-2
-    returns)
+    (tie.spec one-requires later-requires (λ c κs. search needs) (λ c κs. search needs) same-length same-length-2 returns)

@@ -23,24 +23,12 @@ Inv-loop plan width data₀ scratch₀ twiddles count start₀ k₀ «data» scr
 abbrev μ-loop : tie.MeasureT-loop
 μ-loop plan width data₀ scratch₀ twiddles count start₀ k₀ «data» scratch start k = count - k
 
-paste-requires : tie.Need-paste-requires Inv-loop μ-loop
-paste-requires c κs = search needs
-
-same-length : tie.Need-same-length Inv-loop μ-loop
-same-length c = search needs
-
-same-length-2 : tie.Need-same-length-2 Inv-loop μ-loop
-same-length-2 c = search needs
-
 returns : tie.Need-returns Inv-loop μ-loop
 returns c =
     let s = c .before .before .before .before .before .before .before .before .before in
     let a = s .args in
     gone-one (stageIn (a .plan) (a .width) (a .twiddles .now)) (a .scratch .now) _ (a .plan .count) (c .before .before .before .before .before .if1 .taken)
     (c .before .before .paste .ensures ∙ whole-pasted _ _ (s .pre .0 .long ∙ sym (s .pre .0 .wide)))
-
-twiddle-count-requires : tie.Need-twiddle-count-requires Inv-loop μ-loop
-twiddle-count-requires c κs = search needs
 
 loop-holds : tie.Need-loop-holds Inv-loop μ-loop
 loop-holds c =
@@ -64,21 +52,12 @@ one-requires-2 c κs =
     let l = c .before .before .before .before .loop in
     steppable (c .before .before .before .before .before .before .before .before .before .before .pre .0) (l .k) (c .before .before .before .loop-test .taken) _ _ _ (l .inv .4) (l .inv .3) (l .inv .2)
 
-twiddle-count-requires-2 : tie.Need-twiddle-count-requires-2 Inv-loop μ-loop
-twiddle-count-requires-2 c κs = search needs
-
 add-start : tie.Need-add-start Inv-loop μ-loop
 add-start c =
     let s = c .before .before .before .before .before .before .before .before .before in
     let l = c .before .before .before .loop in
     let known = c .before .before .loop-test .taken in
     omega (arith, l .inv .2, start-few (s .args .plan) (s .pre .0 .planned) (l .k) (le-of-lt known), c .twiddle-count2 .ensures, count-small (s .args .plan) (s .pre .0 .planned) (l .k) known)
-
-add-k : tie.Need-add-k Inv-loop μ-loop
-add-k c = search needs
-
-loop-less : tie.Need-loop-less Inv-loop μ-loop
-loop-less c = search needs
 
 loop-again : tie.Need-loop-again Inv-loop μ-loop
 loop-again c =
@@ -107,12 +86,6 @@ loop-again c =
       next .2,
     )
 
-same-length-3 : tie.Need-same-length-3 Inv-loop μ-loop
-same-length-3 c = search needs
-
-same-length-4 : tie.Need-same-length-4 Inv-loop μ-loop
-same-length-4 c = search needs
-
 returns-2 : tie.Need-returns-2 Inv-loop μ-loop
 returns-2 c =
     let s = c .before .before .before .before .before .before .before in
@@ -124,22 +97,6 @@ returns-2 c =
 pub later-spec : {M : Type 1} → statement M
 later-spec =
     tie.close
-    (tie.spec
-    Inv-loop
-    μ-loop
-    paste-requires
-    same-length
-    same-length-2
-    returns
-    twiddle-count-requires
-    loop-holds
-    one-requires
-    one-requires-2
-    twiddle-count-requires-2
-    add-start
-    add-k
-    loop-less
-    loop-again
-    same-length-3
-    same-length-4
-    returns-2)
+    (tie.spec Inv-loop μ-loop (λ c κs. search needs) (λ c. search needs) (λ c. search needs) returns (λ c κs. search needs) loop-holds
+    one-requires one-requires-2 (λ c κs. search needs) add-start (λ c. search needs) (λ c. search needs) loop-again (λ c. search needs)
+    (λ c. search needs) returns-2)

@@ -14,9 +14,6 @@ mul-from c =
     let s = c .before .before .before in
     omega (arith, s .pre .starts, start-few (s .args .plan) (s .pre .planned) (s .args .k) (le-of-lt (s .pre .known)))
 
-twiddle-count-requires : tie.Need-twiddle-count-requires
-twiddle-count-requires c κs = search needs
-
 mul-to : tie.Need-mul-to
 mul-to c =
     let s = c .before .before .before .before in
@@ -32,12 +29,6 @@ mul-work c =
     let s = c .before .before .before .before .before in
     omega (arith, s .pre .starts, start-few (s .args .plan) (s .pre .planned) (s .args .k) (le-of-lt (s .pre .known)))
 
-sub-work : tie.Need-sub-work
-sub-work c = search needs
-
-part-work-start : tie.Need-part-work-start
-part-work-start c = search needs
-
 part-work-end : tie.Need-part-work-end
 part-work-end c =
     let s = c .before .before .before .before .before in
@@ -49,9 +40,6 @@ work-requires c κs =
     let a = s .args in
     step-workable (a .plan) (a .k) (a .width) _ _ (a .start) (a .twiddles .now) _ (s .pre) (own-slice (a .plan) (a .k) (a .twiddles .now) (a .start) _ (s .pre .starts) (c .before .before .twiddle-count .ensures))
 
-same-length : tie.Need-same-length
-same-length c = search needs
-
 returns : tie.Need-returns
 returns c =
     let s = c .before .before .before .before .before .before .before .before .before in
@@ -61,15 +49,5 @@ returns c =
 pub one-spec : {M : Type 1} → statement M
 one-spec =
     tie.close
-    (tie.spec
-    mul-from
-    twiddle-count-requires
-    mul-to
-    add-to
-    mul-work
-    sub-work
-    part-work-start
-    part-work-end
-    work-requires
-    same-length
-    returns)
+    (tie.spec mul-from (λ c κs. search needs) mul-to add-to mul-work (λ c. search needs) (λ c. search needs) part-work-end work-requires
+    (λ c. search needs) returns)

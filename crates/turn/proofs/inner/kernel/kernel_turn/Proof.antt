@@ -18,9 +18,6 @@ mul-quarters c = omega (arith, small (c .before .pre))
 div-quarters : tie.Need-div-quarters
 div-quarters c = omega (arith, small (c .before .pre))
 
-quarters-requires : tie.Need-quarters-requires
-quarters-requires c κs = search needs
-
 returns : tie.Need-returns
 unfolding byKey
 returns c = keyed (c .before .args .t) (c .before .args .r) 25 _ refl (c .before .pre) (c .match .keys1)
@@ -92,26 +89,5 @@ returns-17 c =
 pub kernel-turn-spec : {M : Type 1} → statement M
 kernel-turn-spec =
     tie.close
-    (tie.spec
-    mul-match
-    add-match
-    mul-quarters
-    div-quarters
-    quarters-requires
-    returns
-    returns-2
-    returns-3
-    returns-4
-    returns-5
-    returns-6
-    returns-7
-    returns-8
-    returns-9
-    returns-10
-    returns-11
-    returns-12
-    returns-13
-    returns-14
-    returns-15
-    returns-16
-    returns-17)
+    (tie.spec mul-match add-match mul-quarters div-quarters (λ c κs. search needs) returns returns-2 returns-3 returns-4 returns-5 returns-6
+    returns-7 returns-8 returns-9 returns-10 returns-11 returns-12 returns-13 returns-14 returns-15 returns-16 returns-17)

@@ -21,14 +21,8 @@ by-quarter c q e =
     ∙ turn-general (u .before .before .before .before .args .index) (u .unrounded .result) (c .before .nearest .result) (c .nearest2 .result)
     (u .before .if1 .left) (u .unrounded .ensures) (c .before .nearest .ensures) (c .nearest2 .ensures)
 
-quarters-requires : tie.Need-quarters-requires
-quarters-requires c κs = search needs
-
 returns : tie.Need-returns
 returns c = c .quarters .ensures ∙ turn-whole (c .before .before .before .before .args .index) (c .before .if1 .taken)
-
-unrounded-requires : tie.Need-unrounded-requires
-unrounded-requires c κs = search needs
 
 nearest-requires : tie.Need-nearest-requires
 nearest-requires c κs = fit c .0 .1
@@ -55,13 +49,5 @@ returns-5 c =
 pub at-spec : {M : Type 1} → statement M
 at-spec =
     tie.close
-    (tie.spec
-    quarters-requires
-    returns
-    unrounded-requires
-    nearest-requires
-    nearest-requires-2
-    returns-2
-    returns-3
-    returns-4
+    (tie.spec (λ c κs. search needs) returns (λ c κs. search needs) nearest-requires nearest-requires-2 returns-2 returns-3 returns-4
     returns-5)

@@ -6,17 +6,8 @@ use borrow.Author.Needs.{needs}
 use Rattle.turn.proofs.inner.lookup.unrounded.Statement.{statement}
 use Rattle.turn.proofs.inner.lookup.unrounded.Tie as tie
 
-sub-m : tie.Need-sub-m
-sub-m c = search needs
-
-mul-t8 : tie.Need-mul-t8
-mul-t8 c = search needs
-
 shared-slice-read-t10 : tie.Need-shared-slice-read-t10
 shared-slice-read-t10 c = omega (arith, house-long (c .before .before .pre .0))
-
-mul-t11 : tie.Need-mul-t11
-mul-t11 c = search needs
 
 shared-slice-read-t13 : tie.Need-shared-slice-read-t13
 shared-slice-read-t13 c = omega (arith, house-long (c .before .before .before .pre .0))
@@ -24,14 +15,8 @@ shared-slice-read-t13 c = omega (arith, house-long (c .before .before .before .p
 returns : tie.Need-returns
 returns c = let s = c .before .before .before in read-exchanged (s .pre .0) _ _ ∙ entry-exchanged (s .args .index) (c .before .before .if1 .taken)
 
-mul-t14 : tie.Need-mul-t14
-mul-t14 c = search needs
-
 shared-slice-read-t16 : tie.Need-shared-slice-read-t16
 shared-slice-read-t16 c = omega (arith, house-long (c .before .before .pre .0))
-
-mul-t17 : tie.Need-mul-t17
-mul-t17 c = search needs
 
 shared-slice-read-t19 : tie.Need-shared-slice-read-t19
 shared-slice-read-t19 c = omega (arith, house-long (c .before .before .before .pre .0))
@@ -42,15 +27,5 @@ returns-2 c = let s = c .before .before .before in read-plain (s .pre .0) _ _ �
 pub unrounded-spec : {M : Type 1} → statement M
 unrounded-spec =
     tie.close
-    (tie.spec
-    sub-m
-    mul-t8
-    shared-slice-read-t10
-    mul-t11
-    shared-slice-read-t13
-    returns
-    mul-t14
-    shared-slice-read-t16
-    mul-t17
-    shared-slice-read-t19
-    returns-2)
+    (tie.spec (λ c. search needs) (λ c. search needs) shared-slice-read-t10 (λ c. search needs) shared-slice-read-t13 returns
+    (λ c. search needs) shared-slice-read-t16 (λ c. search needs) shared-slice-read-t19 returns-2)

@@ -21,12 +21,6 @@ near c =
     c .before .closest .ensures
     ∙ ap (λ (u : ℕ). closest (c .before .before .before .args .c) u) (shifted (c .before .before .beyond .result) (few (c .before .before)))
 
-beyond-requires : tie.Need-beyond-requires
-beyond-requires c κs = search needs
-
-cast-closest : tie.Need-cast-closest
-cast-closest c = search needs
-
 shl-closest : tie.Need-shl-closest
 shl-closest c = omega (arith, few c)
 
@@ -61,13 +55,5 @@ returns c =
 pub nearest-spec : {M : Type 1} → statement M
 nearest-spec =
     tie.close
-    (tie.spec
-    beyond-requires
-    cast-closest
-    shl-closest
-    closest-requires
-    add-scale
-    mul-scale
-    float-from-bits-scale
-    int-to-float-result
-    returns)
+    (tie.spec (λ c κs. search needs) (λ c. search needs) shl-closest closest-requires add-scale mul-scale float-from-bits-scale
+    int-to-float-result returns)

@@ -10,23 +10,14 @@ use borrow.Author.Needs.{needs}
 use Rattle.twiddle.proofs.inner.check.lent.Statement.{statement}
 use Rattle.twiddle.proofs.inner.check.lent.Tie as tie
 
-is-planned-requires : tie.Need-is-planned-requires
-is-planned-requires c κs = search needs
-
 returns : tie.Need-returns
 returns c = let a = c .before .before .args in unplanned (a .plan) (a .width) (a .stage) (a .end) (sym (c .before .is-planned .ensures) ∙ not-true _ (c .if1 .taken))
-
-is-width-requires : tie.Need-is-width-requires
-is-width-requires c κs = search needs
 
 returns-2 : tie.Need-returns-2
 returns-2 c =
     let a = c .before .before .before .before .args in
     let planned = sym (c .before .before .before .is-planned .ensures) ∙ not-false _ (c .before .before .if1 .left) in
     unpacked (a .plan) (a .width) (a .stage) (a .end) planned (sym (c .before .is-width .ensures) ∙ not-true _ (c .if2 .taken))
-
-is-housed-requires : tie.Need-is-housed-requires
-is-housed-requires c κs = search needs
 
 returns-3 : tie.Need-returns-3
 returns-3 c =
@@ -82,17 +73,5 @@ returns-6 c =
 pub lent-spec : {M : Type 1} → statement M
 lent-spec =
     tie.close
-    (tie.spec
-    is-planned-requires
-    returns
-    is-width-requires
-    returns-2
-    is-housed-requires
-    returns-3
-    twiddle-start-requires
-    mul-if4
-    returns-4
-    end-count-requires
-    mul-if5
-    returns-5
-    returns-6)
+    (tie.spec (λ c κs. search needs) returns (λ c κs. search needs) returns-2 (λ c κs. search needs) returns-3 twiddle-start-requires
+    mul-if4 returns-4 end-count-requires mul-if5 returns-5 returns-6)

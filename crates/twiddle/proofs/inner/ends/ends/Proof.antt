@@ -28,9 +28,6 @@ div-step c = c .before .before .before .before .pre .1 .some
 loop-holds : tie.Need-loop-holds Inv-loop μ-loop
 loop-holds c = (omega arith, puts-none nan _ _ _ _)
 
-add-at : tie.Need-add-at Inv-loop μ-loop
-add-at c = search needs
-
 mul-at : tie.Need-mul-at Inv-loop μ-loop
 mul-at c =
     let s = c .before .before .before .before .before .before in
@@ -45,23 +42,11 @@ at-requires c κs =
     let early : l .k < endCount (s .args .n) = rw (← c .before .before .end-count .ensures) (c .loop-test .taken) in
     (s .pre .0, end-index (s .args .n) (s .pre .1 .housed) (l .k) early)
 
-words-of-requires : tie.Need-words-of-requires Inv-loop μ-loop
-words-of-requires c κs = search needs
-
-directed-requires : tie.Need-directed-requires Inv-loop μ-loop
-directed-requires c κs = search needs
-
 put-requires : tie.Need-put-requires Inv-loop μ-loop
 put-requires c κs =
     let s = c .before .before .before .before .before .before .before .before .before .before in
     let l = c .before .before .before .before .before .loop in
     omega (arith, c .before .before .before .before .loop-test .taken, c .before .before .before .before .before .before .end-count .ensures, s .pre .1 .long, ap length (l .inv .1) ∙ length-puts nan _ _ _ (s .args .out .now) (l .k))
-
-add-k : tie.Need-add-k Inv-loop μ-loop
-add-k c = search needs
-
-loop-less : tie.Need-loop-less Inv-loop μ-loop
-loop-less c = search needs
 
 loop-again : tie.Need-loop-again Inv-loop μ-loop
 loop-again c =
@@ -87,20 +72,5 @@ returns c =
 pub ends-spec : {M : Type 1} → statement M
 ends-spec =
     tie.close
-    (tie.spec
-    Inv-loop
-    μ-loop
-    end-count-requires
-    div-step
-    loop-holds
-    add-at
-    mul-at
-    at-requires
-    words-of-requires
-    directed-requires
-    put-requires
-    add-k
-    loop-less
-    loop-again
-    same-length
-    returns)
+    (tie.spec Inv-loop μ-loop end-count-requires div-step loop-holds (λ c. search needs) mul-at at-requires (λ c κs. search needs)
+    (λ c κs. search needs) put-requires (λ c. search needs) (λ c. search needs) loop-again same-length returns)

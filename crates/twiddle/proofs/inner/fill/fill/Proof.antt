@@ -5,23 +5,8 @@ use borrow.Author.Needs.{needs}
 use Rattle.twiddle.proofs.inner.fill.fill.Statement.{statement}
 use Rattle.twiddle.proofs.inner.fill.fill.Tie as tie
 
-lent-requires : tie.Need-lent-requires
-lent-requires c κs = search needs
-
 enum-told : tie.Need-enum-told
 enum-told c = search needs
-
-cosines-requires : tie.Need-cosines-requires
-cosines-requires c κs = search needs
-
-sines-requires : tie.Need-sines-requires
-sines-requires c κs = search needs
-
-slice-aggregate-stages : tie.Need-slice-aggregate-stages
-slice-aggregate-stages c = search needs
-
-slice-aggregate-stages-2 : tie.Need-slice-aggregate-stages-2
-slice-aggregate-stages-2 c = search needs
 
 stages-requires : tie.Need-stages-requires
 stages-requires c κs =
@@ -31,12 +16,6 @@ stages-requires c κs =
       record { planned = t .planned; housed = t .housed; width = t .width; long = t .stages },
     )
 
-slice-aggregate-ends : tie.Need-slice-aggregate-ends
-slice-aggregate-ends c = search needs
-
-slice-aggregate-ends-2 : tie.Need-slice-aggregate-ends-2
-slice-aggregate-ends-2 c = search needs
-
 ends-requires : tie.Need-ends-requires
 ends-requires c κs =
     let a = c .before .before .before .before .before .before .before .before .before .before .before .before .before .before .before .before .args in
@@ -44,15 +23,6 @@ ends-requires c κs =
       record { cos = c .before .before .before .before .before .before .before .before .before .before .cosines .ensures; sin = c .before .before .before .before .before .before .before .before .before .sines .ensures },
       record { some = plan-some (a .plan) (t .planned); housed = t .housed; long = t .ends },
     )
-
-enum-known-why : tie.Need-enum-known-why
-enum-known-why c = search needs
-
-same-length : tie.Need-same-length
-same-length c = search needs
-
-same-length-2 : tie.Need-same-length-2
-same-length-2 c = search needs
 
 returns : tie.Need-returns
 returns c =
@@ -69,19 +39,6 @@ returns-2 c =
 pub fill-spec : {M : Type 1} → statement M
 fill-spec =
     tie.close
-    (tie.spec
-    lent-requires
-    enum-told
-    cosines-requires
-    sines-requires
-    slice-aggregate-stages
-    slice-aggregate-stages-2
-    stages-requires
-    slice-aggregate-ends
-    slice-aggregate-ends-2
-    ends-requires
-    enum-known-why
-    same-length
-    same-length-2
-    returns
-    returns-2)
+    (tie.spec (λ c κs. search needs) enum-told (λ c κs. search needs) (λ c κs. search needs) (λ c. search needs) (λ c. search needs)
+    stages-requires (λ c. search needs) (λ c. search needs) ends-requires (λ c. search needs) (λ c. search needs) (λ c. search needs)
+    returns returns-2)

@@ -9,26 +9,14 @@ use Rattle.twiddle.proofs.Places.{lane-place, lone-place}
 use Rattle.twiddle.proofs.inner.places.place.Statement.{statement}
 use Rattle.twiddle.proofs.inner.places.place.Tie as tie
 
-sub-each : tie.Need-sub-each
-sub-each c = search needs
-
-div-if1 : tie.Need-div-if1
-div-if1 c = search needs
-
 mul-if1 : tie.Need-mul-if1
 mul-if1 c = let a = c .args in omega (arith, div-mul-le-self (a .m) (a .width))
-
-div-result : tie.Need-div-result
-div-result c = search needs
 
 mul-result : tie.Need-mul-result
 mul-result c = let a = c .before .args in omega (arith, width-small (a .width) (a .r) (omega arith) (omega arith))
 
 mul-result-2 : tie.Need-mul-result-2
 mul-result-2 c = let a = c .before .args in omega (arith, lane-small (a .i) (a .width) (a .r) (omega arith) (omega arith) (omega arith))
-
-sub-result : tie.Need-sub-result
-sub-result c = search needs
 
 mul-result-3 : tie.Need-mul-result-3
 mul-result-3 c = let a = c .before .args in omega (arith, width-small (a .width) (a .k) (omega arith) (omega arith))
@@ -41,9 +29,6 @@ add-result c =
       lane-small (a .i) (a .width) (a .r) (omega arith) (omega arith) (omega arith),
       width-small (a .width) (a .k) (omega arith) (omega arith),
     )
-
-rem-result : tie.Need-rem-result
-rem-result c = search needs
 
 add-result-2 : tie.Need-add-result-2
 add-result-2 c =
@@ -62,9 +47,6 @@ returns c = let a = c .before .args in omega (arith, lane-place (a .m) (a .r) (a
 mul-result-4 : tie.Need-mul-result-4
 mul-result-4 c = let a = c .before .args in omega (arith, lone-small (a .i) (a .r) (omega arith) (omega arith))
 
-sub-result-2 : tie.Need-sub-result-2
-sub-result-2 c = search needs
-
 add-result-3 : tie.Need-add-result-3
 add-result-3 c = let a = c .before .args in omega (arith, lone-small (a .i) (a .r) (omega arith) (omega arith))
 
@@ -74,20 +56,5 @@ returns-2 c = let a = c .before .args in sym (lone-place (a .m) (a .r) (a .width
 pub place-spec : {M : Type 1} → statement M
 place-spec =
     tie.close
-    (tie.spec
-    sub-each
-    div-if1
-    mul-if1
-    div-result
-    mul-result
-    mul-result-2
-    sub-result
-    mul-result-3
-    add-result
-    rem-result
-    add-result-2
-    returns
-    mul-result-4
-    sub-result-2
-    add-result-3
-    returns-2)
+    (tie.spec (λ c. search needs) (λ c. search needs) mul-if1 (λ c. search needs) mul-result mul-result-2 (λ c. search needs) mul-result-3
+    add-result (λ c. search needs) add-result-2 returns mul-result-4 (λ c. search needs) add-result-3 returns-2)

@@ -34,9 +34,6 @@ at-requires c κs =
     let l = c .before .before .loop in
     (s .pre .0, index-within (s .args .each) (s .args .turn) (l .k) (l .index) (s .pre .1 .small) (c .before .loop-test .taken) (l .inv .1 .0))
 
-words-of-requires : tie.Need-words-of-requires Inv-loop μ-loop
-words-of-requires c κs = search needs
-
 put-requires : tie.Need-put-requires Inv-loop μ-loop
 put-requires c κs =
     let s = c .before .before .before .before .before .before .before .before in
@@ -48,12 +45,6 @@ add-place c =
     let s = c .before .before .before .before .before .before .before .before .before .before .before in
     let l = c .before .before .before .before .before .before .before .loop in
     omega (arith, l .inv .1 .1 .0, s .pre .1 .near, s .pre .1 .within (l .k) (c .before .before .before .before .before .before .loop-test .taken))
-
-add-k : tie.Need-add-k Inv-loop μ-loop
-add-k c = search needs
-
-loop-less : tie.Need-loop-less Inv-loop μ-loop
-loop-less c = search needs
 
 loop-again : tie.Need-loop-again Inv-loop μ-loop
 loop-again c =
@@ -73,17 +64,5 @@ returns c = let l = c .before .loop in l .inv .1 .1 .1 ∙ ap (putPairs _ _ _ _)
 pub iteration-spec : {M : Type 1} → statement M
 iteration-spec =
     tie.close
-    (tie.spec
-    Inv-loop
-    μ-loop
-    loop-holds
-    add-index
-    at-requires
-    words-of-requires
-    put-requires
-    add-place
-    add-k
-    loop-less
-    loop-again
-    same-length
-    returns)
+    (tie.spec Inv-loop μ-loop loop-holds add-index at-requires (λ c κs. search needs) put-requires add-place (λ c. search needs)
+    (λ c. search needs) loop-again same-length returns)

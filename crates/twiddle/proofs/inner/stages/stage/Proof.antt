@@ -68,12 +68,6 @@ iteration-requires c κs =
     let lane = c .before .before .lane-of in
     (c .before .before .before .before .before .before .before .before .pre .0, rw (l .inv .1 .0) (lane-turnable (a .m) (a .s) (a .r) (a .width) (length (a .out .now)) h (l .i) early (lane .result) (lane .ensures (a .m) refl)))
 
-add-i : tie.Need-add-i Inv-loop μ-loop
-add-i c = search needs
-
-loop-less : tie.Need-loop-less Inv-loop μ-loop
-loop-less c = search needs
-
 loop-again : tie.Need-loop-again Inv-loop μ-loop
 loop-again c =
     let a = c .before .before .before .before .before .before .before .before .before .before .before .args in
@@ -98,20 +92,5 @@ returns c =
 pub stage-spec : {M : Type 1} → statement M
 stage-spec =
     tie.close
-    (tie.spec
-    Inv-loop
-    μ-loop
-    div-whole
-    mul-whole
-    mul-step
-    div-step
-    loop-holds
-    lane-of-requires
-    mul-iteration
-    sub-iteration
-    iteration-requires
-    add-i
-    loop-less
-    loop-again
-    same-length
-    returns)
+    (tie.spec Inv-loop μ-loop div-whole mul-whole mul-step div-step loop-holds lane-of-requires mul-iteration sub-iteration
+    iteration-requires (λ c. search needs) (λ c. search needs) loop-again same-length returns)

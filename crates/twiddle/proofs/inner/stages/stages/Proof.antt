@@ -31,9 +31,6 @@ element-copy-out-r c =
     let s = c .before .before .before .before .before .before in
     omega (arith, plan-order (s .args .t3) (s .pre .1 .planned) .few, plan-long (s .args .t3) (s .pre .1 .planned), c .before .loop-test .taken)
 
-cast-r : tie.Need-cast-r Inv-loop μ-loop
-cast-r c = search needs
-
 twiddle-start-requires : tie.Need-twiddle-start-requires Inv-loop μ-loop
 twiddle-start-requires c κs = (c .before .before .before .before .before .before .before .pre .1 .planned, omega (arith, c .before .before .loop-test .taken))
 
@@ -43,9 +40,6 @@ mul-from c =
     let l = c .before .before .before .before .loop in
     let known = c .before .before .before .loop-test .taken in
     omega (arith, c .twiddle-start .ensures, start-few (s .args .t3) (s .pre .1 .planned) (l .j) (omega arith))
-
-add-twiddle-start : tie.Need-add-twiddle-start Inv-loop μ-loop
-add-twiddle-start c = search needs
 
 twiddle-start-requires-2 : tie.Need-twiddle-start-requires-2 Inv-loop μ-loop
 twiddle-start-requires-2 c κs = (c .before .before .before .before .before .before .before .before .pre .1 .planned, omega (arith, c .before .before .before .loop-test .taken))
@@ -104,12 +98,6 @@ stage-requires c κs =
     let room = part-room (s .args .t3) (s .args .width) (length (s .args .out .now)) (s .pre .1) (l .j) (l .inv .0) known _ _ strided refl _ _ (c .before .before .twiddle-start .ensures) (c .before .twiddle-start2 .ensures) (l .out) (l .inv .1 .1 .0) in
     (s .pre .0, stage-shape (s .args .t3) (s .args .width) (length (s .args .out .now)) (s .pre .1) (l .j) (l .inv .0) known _ _ strided refl _ room)
 
-add-j : tie.Need-add-j Inv-loop μ-loop
-add-j c = search needs
-
-loop-less : tie.Need-loop-less Inv-loop μ-loop
-loop-less c = search needs
-
 loop-again : tie.Need-loop-again Inv-loop μ-loop
 loop-again c =
     let s = c .before .before .before .before .before .before .before .before .before .before .before .before .before in
@@ -131,26 +119,6 @@ returns c =
 pub stages-spec : {M : Type 1} → statement M
 stages-spec =
     tie.close
-    (tie.spec
-    Inv-loop
-    μ-loop
-    loop-holds
-    stride-requires
-    element-copy-out-r
-    cast-r
-    twiddle-start-requires
-    mul-from
-    add-twiddle-start
-    twiddle-start-requires-2
-    mul-to
-    div-stage
-    mul-stage
-    sub-stage
-    part-stage-start
-    part-stage-end
-    stage-requires
-    add-j
-    loop-less
-    loop-again
-    same-length
-    returns)
+    (tie.spec Inv-loop μ-loop loop-holds stride-requires element-copy-out-r (λ c. search needs) twiddle-start-requires mul-from
+    (λ c. search needs) twiddle-start-requires-2 mul-to div-stage mul-stage sub-stage part-stage-start part-stage-end stage-requires
+    (λ c. search needs) (λ c. search needs) loop-again same-length returns)
