@@ -11,6 +11,7 @@ use lib.Ieee.Fits.{round-is}
 use Rattle.turn.specs.declared.Turn.the-variants.{Quarter}
 use Rattle.floats.specs.Complexes.{cx, plus, minus, conjugate}
 use Rattle.floats.specs.declared.complex.Complex.{Complex}
+use Rattle.floats.proofs.Signs.{neg-neg}
 use Rattle.ends.specs.Ends.{mixed, fftNear, fftFar, ifftNear, ifftFar}
 use Rattle.accuracy.specs.Gauss.{Gauss, plusG, minusG, timesG, scaleG, Disc, Off, valC}
 use Rattle.accuracy.specs.Value.{Signed, NearZ, negZ, timesZ, scale, absZ, mag, val, Held}
@@ -58,16 +59,6 @@ mul-neg f (inf s) (fin t n d) = cond-neg (eqb n 0) nan (inf (unlike s t)) nan (i
 mul-neg f (fin s m e) nan = refl
 mul-neg f (fin s m e) (inf t) = cond-neg (eqb m 0) nan (inf (unlike s t)) nan (inf (unlike (not s) t)) refl (ap inf (unlike-not s t))
 mul-neg f (fin s m e) (fin t n d) = ap (λ (b : Bool). round f b (m * up e * (n * up d)) (down e * down d)) (unlike-not s t) ∙ round-neg f (unlike s t) (m * up e * (n * up d)) (down e * down d)
-
-not-not : (b : Bool) → not (not b) ≡ b
-not-not true = refl
-not-not false = refl
-
-neg-neg : (x : Float) → neg (neg x) ≡ x
-unfolding neg
-neg-neg nan = refl
-neg-neg (inf s) = ap inf (not-not s)
-neg-neg (fin s m e) = ap (λ (b : Bool). fin b m e) (not-not s)
 
 -- ---- the end step is a sum of a half and a product
 conjC : Complex → Complex

@@ -1,10 +1,10 @@
 -- What an accepted forward call leaves, with the twiddles of an accepted filling, bin by bin against the spectrum. Assumes nothing.
 use mathlib.Core.Path.{_≡_, refl, sym, ap, ap₂, _∙_, subst}
-use mathlib.Core.List.{List, _++_}
+use mathlib.Core.List.{List}
 use Prim.Native.Nat.{ℕ, zero, suc, _+_, _-_, _*_, _/_, _^_, _≤_, _<_}
 use native.Mathlib.Nat.{le-refl, le-trans, mul-le-mul-right}
 use native.Mathlib.Omega.{arith}
-use lib.ListN.{length, getD, List·getD-append}
+use lib.ListN.{length, getD}
 use lib.Ieee.{Float, nan, binary32, mul, ofBits}
 use Rattle.refusal.specs.declared.Verdict.{Verdict}
 use Rattle.refusal.specs.declared.Verdict.the-variants.{Accepted}
@@ -12,8 +12,8 @@ use Rattle.refusal.proofs.Rows.{settled}
 use Rattle.plan.specs.Counts.{endCount}
 use Rattle.plan.specs.declared.Record.{Record}
 use Rattle.schedule.specs.Plans.{inUse}
-use Rattle.schedule.specs.Stage.{tabulate, stage, run, plain}
-use Rattle.schedule.proofs.Cells.{getD-tabulate, length-tabulate, length-stage}
+use Rattle.schedule.specs.Stage.{stage, run, plain}
+use Rattle.schedule.proofs.Cells.{length-stage}
 use Rattle.schedule.proofs.Plans.{use-length, use-product}
 use Rattle.turn.specs.Calls.{part}
 use Rattle.turn.specs.Turns.{turnOf, wordsOf}
@@ -22,13 +22,13 @@ use Rattle.twiddle.specs.declared.inner.ends.Direction.the-variants.{Forward}
 use Rattle.twiddle.proofs.Theorems.{filled-end}
 use Rattle.floats.specs.Complexes.{cx, blank, cell, paired as pairsOf, flat}
 use Rattle.floats.specs.declared.complex.Complex.{Complex}
-use Rattle.floats.proofs.Flat.{get-paired, length-paired, paired-flat, length-flat}
+use Rattle.floats.proofs.Flat.{get-paired, length-paired, cell-flat}
 use Rattle.kernel.specs.Floats.{floats}
 use Rattle.stage.specs.Runs.{turning}
 use Rattle.stage.proofs.Same.{run-housed}
 use Rattle.stage.proofs.Theorems.{filled-run}
 use Rattle.ends.specs.Ends.{endCell, endLent, ended, fftSteps, postprocess-fft}
-use Rattle.ends.proofs.Cells.{length-ended}
+use Rattle.ends.proofs.Cells.{cell-tabulated, length-ended}
 use Rattle.spectrum.specs.Calls.{Forwards}
 use Rattle.spectrum.specs.Parts.{Forwardable}
 use Rattle.spectrum.specs.Transforms.{Slices, padOf, forwardRun, forwardOf}
@@ -48,19 +48,6 @@ use Rattle.accuracy.proofs.Run.{run-off, run-held}
 use Rattle.accuracy.proofs.Stages.{error, error-small}
 use Rattle.accuracy.proofs.Sums.{sum-equal, sumN-least}
 use Rattle.accuracy.proofs.Turns.{HalfClose}
-
--- the cells of a row are those of its beginning
-pub cell-front : (xs ys : List Float) (j : ℕ) → 2 * j + 1 < length xs → cell (xs ++ ys) j ≡ cell xs j
-cell-front xs ys j l = ap₂ cx (List·getD-append xs ys nan (2 * j) (omega arith)) (List·getD-append xs ys nan (2 * j + 1) l)
-
--- a cell of cells written out
-pub cell-flat : (zs : List Complex) (k : ℕ) → k < length zs → cell (flat zs) k ≡ getD zs k blank
-cell-flat zs k l = sym (get-paired (flat zs) k (omega (arith, length-flat zs))) ∙ ap (λ (us : List Complex). getD us k blank) (paired-flat zs)
-
-pub cell-tabulated : (n : ℕ) (f : ℕ → Complex) (k : ℕ) → k < n → cell (flat (tabulate n 0 f)) k ≡ f k
-cell-tabulated n f k l =
-    let same : 0 + k ≡ k = omega arith in
-    cell-flat _ k (rw (length-tabulate n 0 f) l) ∙ getD-tabulate n 0 f k blank l ∙ ap f same
 
 -- a run makes as many cells as it is asked for
 pub run-long : (lent : ℕ → ℕ → ℕ → Complex) (h : ℕ) (rs : List ℕ) (j : ℕ) (xs : List Complex) → length xs ≡ h → length (run (floats lent) h rs j xs) ≡ h

@@ -28,13 +28,13 @@ use Rattle.twiddle.specs.declared.inner.ends.Direction.the-variants.{Inverse}
 use Rattle.twiddle.proofs.Theorems.{filled-end}
 use Rattle.floats.specs.Complexes.{cx, blank, conjugate, cell, flat}
 use Rattle.floats.specs.declared.complex.Complex.{Complex}
-use Rattle.floats.proofs.Flat.{paired-flat}
+use Rattle.floats.proofs.Flat.{paired-flat, cell-flat, cell-front}
 use Rattle.kernel.specs.Floats.{floats, houseFloats}
 use Rattle.stage.specs.Runs.{turning}
 use Rattle.stage.proofs.Same.{run-housed}
 use Rattle.stage.proofs.Theorems.{filled-run}
 use Rattle.ends.specs.Ends.{endCell, endLent, ended, ifftSteps, preprocess-ifft, conjugated, zeros}
-use Rattle.ends.proofs.Cells.{length-ended, length-conjugated}
+use Rattle.ends.proofs.Cells.{cell-tabulated, length-ended, length-conjugated}
 use Rattle.spectrum.specs.Calls.{Inverts}
 use Rattle.spectrum.specs.Parts.{Invertible}
 use Rattle.spectrum.specs.Transforms.{Slices, dataOf, padOf, preparedOf, inverseRun, restored, inverseOf}
@@ -51,7 +51,7 @@ use Rattle.accuracy.proofs.Conjugate.{conjG}
 use Rattle.accuracy.proofs.Dft.{sumN, dft}
 use Rattle.accuracy.proofs.Ends.{conj-disc, conj-val}
 use Rattle.accuracy.proofs.Filled.{Circled, circled}
-use Rattle.accuracy.proofs.Forward.{cell-front, cell-flat, cell-tabulated, run-long}
+use Rattle.accuracy.proofs.Forward.{run-long}
 use Rattle.accuracy.proofs.House.{turns}
 use Rattle.accuracy.proofs.Mirror.{prepared, even-sample, odd-sample}
 use Rattle.accuracy.proofs.Plane.{off-same, off-eq, off-more, off-trans, off-scale, off-times}

@@ -14,7 +14,7 @@ use Rattle.schedule.specs.Stage.{tabulate}
 use Rattle.schedule.proofs.Cells.{length-tabulate, getD-tabulate}
 use Rattle.floats.specs.Complexes.{blank, conjugate, cell, putCell, paired, flat}
 use Rattle.floats.specs.declared.complex.Complex.{Complex}
-use Rattle.floats.proofs.Flat.{get-paired, length-paired, flat-paired, length-flat, length-put, get-put, get-other}
+use Rattle.floats.proofs.Flat.{get-paired, length-paired, flat-paired, length-flat, cell-flat, length-put, get-put, get-other}
 use Rattle.ends.specs.Ends.{+0, Steps, endCell, endLent, ended, conjugated, zeros}
 use Rattle.ends.specs.Parts.{Stepped}
 
@@ -26,6 +26,12 @@ flat-cells n f ys l e =
     (ext-getD blank (paired ys) (tabulate n 0 f) (length-paired n ys l ∙ sym (length-tabulate n 0 f)) (λ j lj.
     let small : j < n = rw (length-paired n ys l) at lj in
     get-paired ys j (omega arith) ∙ e j small ∙ sym (getD-tabulate n 0 f j blank small ∙ ap f (omega arith))))
+
+-- and back
+pub cell-tabulated : (n : ℕ) (f : ℕ → Complex) (k : ℕ) → k < n → cell (flat (tabulate n 0 f)) k ≡ f k
+cell-tabulated n f k l =
+    let same : 0 + k ≡ k = omega arith in
+    cell-flat _ k (rw (length-tabulate n 0 f) l) ∙ getD-tabulate n 0 f k blank l ∙ ap f same
 
 pub length-ended : (s : Steps) (h : ℕ) (tw xs : List Float) → length (ended s h tw xs) ≡ 2 * (h + 1)
 unfolding ended
@@ -42,7 +48,7 @@ module _ (s : Steps) (h : ℕ) (c t : ℕ → Complex) where
   unfolding endCell
   end-first = refl
 
-  end-last : 0 < h → endCell s h c t h ≡ s .last (c 0) (c h)
+  pub end-last : 0 < h → endCell s h c t h ≡ s .last (c 0) (c h)
   unfolding endCell
   end-last l = simp (ne-eqb h 0 (λ e. omega arith), eq-eqb h h refl)
 

@@ -1,3 +1,4 @@
 -- The laws that the proofs share, by subject.
 pub mod Cells
+pub mod Prepared
 pub mod Batches

@@ -1,7 +1,7 @@
 -- The steps at a transform's ends, on h + 1 complex cells in a flat list: `postprocess-fft` from the stages' outputs to bins,
 -- `preprocess-ifft` from bins to the stages' inputs. Assumes nothing.
 use Prim.Native.Nat.{ℕ, _+_, _-_, _*_}
-use mathlib.Core.Bool.{Bool, cond}
+use mathlib.Core.Bool.{cond}
 use mathlib.Core.List.{List}
 use lib.Dec.{eqb, ltb}
 use lib.Ieee.{Float, binary32, add, sub, mul, neg, ofBits}
@@ -104,10 +104,6 @@ ifftSteps =
       far = ifftFar;
       centre = λ c. conjugate (plus c c);
     }
-
--- those of either direction
-abbrev pub stepsOf : (forward : Bool) → Steps
-stepsOf forward = cond forward fftSteps ifftSteps
 
 abbrev pub postprocess-fft : (h : ℕ) → (tw xs : List Float) → List Float
 postprocess-fft h tw xs = ended fftSteps h tw xs

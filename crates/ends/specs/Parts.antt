@@ -1,12 +1,32 @@
 -- What the steps at the ends ask for, and what they have done after some pairs. Assumes nothing.
 use Prim.Native.Nat.{ℕ, _+_, _-_, _*_, _≤_, _<_}
 use mathlib.Core.Path.{_≡_}
+use mathlib.Core.Bool.{Bool, cond}
 use mathlib.Core.List.{List}
 use lib.Ieee.{Float}
 use lib.ListN.{length}
-use Rattle.floats.specs.Complexes.{cell}
+use Rattle.floats.specs.Complexes.{conjugate, cell}
 use Rattle.floats.specs.declared.complex.Complex.{Complex}
-use Rattle.ends.specs.Ends.{Steps, endCell, endLent}
+use Rattle.ends.specs.Ends.{Steps, endCell, endLent, ended, fftSteps, ifftSteps}
+
+-- the same steps, every cell but h conjugated
+abbrev pub conjugating : Steps → Steps
+conjugating s =
+    record {
+      first = λ x y. conjugate (s .first x y);
+      last = s .last;
+      near = λ a b t. conjugate (s .near a b t);
+      far = λ a b t. conjugate (s .far a b t);
+      centre = λ c. conjugate (s .centre c);
+    }
+
+-- those of either direction, the inverse's with the conjugation that follows them
+abbrev pub stepsOf : (forward : Bool) → Steps
+stepsOf forward = cond forward fftSteps (conjugating ifftSteps)
+
+-- `preprocess-ifft`, all cells but h conjugated
+abbrev pub prepared : (h : ℕ) → (tw xs : List Float) → List Float
+prepared h tw xs = ended (conjugating ifftSteps) h tw xs
 
 -- h + 1 cells in so many words, and twiddles for every pair in nt words
 pub record Endable (h words nt : ℕ) : Type 0 where

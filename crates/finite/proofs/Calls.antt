@@ -18,6 +18,7 @@ use Rattle.plan.specs.declared.Record.{Record}
 use Rattle.schedule.specs.Plans.{inUse}
 use Rattle.schedule.specs.Stage.{stage}
 use Rattle.twiddle.specs.Places.{place}
+use Rattle.twiddle.proofs.Verdicts.{width-bounds}
 use Rattle.floats.specs.Complexes.{cell, paired}
 use Rattle.floats.specs.Scan.{firstUnfit}
 use Rattle.floats.specs.declared.complex.Complex.{Complex}
@@ -59,7 +60,7 @@ module _ (p : Record) (j W : ℕ) (xs out tw : List Float) (r : Verdict) (ys : L
       let M = p .half / radix (inUse p) j in
       let lent : ℕ → ℕ → ℕ → Complex = λ n. lentAt M (radix (inUse p) j) W tw in
       let ones : 0 < j → OnesIn p j (lent j) = λ later i q li first last.
-      let below = place-lt M (radix (inUse p) j) W i q (t .width) li first last in
+      let below = place-lt M (radix (inUse p) j) W i q (width-bounds W (t .width) .0) li first last in
       cell-both 0 tw (stage-scanned .1) (place M (radix (inUse p) j) W i q) (omega (arith, below, own-count p (t .planned) j later (t .known), t .lent)) in
       let made = stage (floats lent) (p .half) (inUse p) j (paired xs) in
       let sized = stage-all p (t .planned) lent j k (t .known) few ones (paired xs) (words-cells k (p .half) xs (t .source) w) in

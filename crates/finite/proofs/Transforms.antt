@@ -21,6 +21,7 @@ use Rattle.schedule.proofs.Cells.{length-tabulate, getD-tabulate}
 use Rattle.schedule.proofs.Buffers.{driven-none}
 use Rattle.schedule.proofs.Plans.{use-length, use-product, use-radix}
 use Rattle.twiddle.specs.Places.{place}
+use Rattle.twiddle.proofs.Verdicts.{width-bounds}
 use Rattle.floats.specs.Complexes.{cell}
 use Rattle.kernel.proofs.Widths.{place-lt}
 use Rattle.stage.specs.Runs.{stageIn, runOf, lentTo}
@@ -86,7 +87,7 @@ module _ (p : Record) (W k : ℕ) (stage end xs s : List Float) (no : ℕ) (t : 
 
   ran-words : Words (k + 5 * p .count) (ran .0) × (0 < p .count → Words (k + 5 * p .count) (ran .1))
   ran-words =
-      run-words p (t .planned) W (t .width) stage (lent-ones p (t .planned) W (t .width) stage (t .stages) ws) k (xs, padOf (p .half) s) long (pad-length (p .half) s (t .room)) wx
+      run-words p (t .planned) W (width-bounds W (t .width) .0) stage (lent-ones p (t .planned) W (width-bounds W (t .width) .0) stage (t .stages) ws) k (xs, padOf (p .half) s) long (pad-length (p .half) s (t .room)) wx
       (omega (arith, plan-order p (t .planned) .few))
 
   pub forward-words : Words (k + 5 * p .count + 3) (forwardOf p W stage end xs s .0)
@@ -189,7 +190,7 @@ module _ (p : Record) (W k : ℕ) (stage end xs s : List Float) (room : ℕ) (t 
     where
       ran : Words (k + 3 + 5 * p .count) (runOf p W stage started .0) × (0 < p .count → Words (k + 3 + 5 * p .count) (runOf p W stage started .1))
       ran =
-          run-words p (t .planned) W (t .width) stage (lent-ones p (t .planned) W (t .width) stage (t .stages) ws) (k + 3) started (length-conjugated (p .half) (dataOf (p .half) q)) pad-long
+          run-words p (t .planned) W (width-bounds W (t .width) .0) stage (lent-ones p (t .planned) W (width-bounds W (t .width) .0) stage (t .stages) ws) (k + 3) started (length-conjugated (p .half) (dataOf (p .half) q)) pad-long
           (row-words (k + 3) (p .half) (dataOf (p .half) q) (data-length (p .half) q (rw q-long (t .room))) data-words)
           (omega (arith, plan-order p (t .planned) .few))
 

@@ -1,12 +1,12 @@
 -- A flat list and its cells, those of a part of it, and one cell written.
 -- Assumes nothing.
-use mathlib.Core.Path.{_≡_, refl, ap, ap₂, _∙_}
+use mathlib.Core.Path.{_≡_, refl, sym, ap, ap₂, _∙_}
 use mathlib.Core.Logic.{_≢_}
-use mathlib.Core.List.{List, [], _∷_}
+use mathlib.Core.List.{List, [], _∷_, _++_}
 use Prim.Native.Nat.{ℕ, zero, suc, _+_, _*_, _<_}
 use native.Mathlib.Omega.{arith}
-use lib.ListN.{length, getD, set, take, drop, length-set}
-use lib.Seq.{getD-set-same, getD-set-other, getD-take, getD-drop}
+use lib.ListN.{length, getD, set, take, drop, length-set, List·getD-append}
+use lib.Seq.{getD-set-same, getD-set-other, getD-take, getD-drop, getD-append-add}
 use lib.Ieee.{Float, nan}
 use Rattle.floats.specs.declared.complex.Complex.{Complex}
 use Rattle.floats.specs.Complexes.{cx, blank, cell, putCell, paired, flat}
@@ -45,7 +45,22 @@ unfolding paired flat
 paired-flat [] = refl
 paired-flat (z ∷ zs) = ap (λ (l : List Complex). z ∷ l) (paired-flat zs)
 
+-- a cell of cells written out
+pub cell-flat : (zs : List Complex) (k : ℕ) → k < length zs → cell (flat zs) k ≡ getD zs k blank
+cell-flat zs k l = sym (get-paired (flat zs) k (omega (arith, length-flat zs))) ∙ ap (λ (us : List Complex). getD us k blank) (paired-flat zs)
+
 -- ---- the cells of the beginning and of the end of a list
+
+pub cell-front : (xs ys : List Float) (j : ℕ) → 2 * j + 1 < length xs → cell (xs ++ ys) j ≡ cell xs j
+cell-front xs ys j l = ap₂ cx (List·getD-append xs ys nan (2 * j) (omega arith)) (List·getD-append xs ys nan (2 * j + 1) l)
+
+pub cell-back : (xs ys : List Float) (n j : ℕ) → length xs ≡ 2 * n → cell (xs ++ ys) (n + j) ≡ cell ys j
+cell-back xs ys n j l =
+    let even : 2 * (n + j) ≡ length xs + 2 * j = omega arith in
+    let odd : 2 * (n + j) + 1 ≡ length xs + (2 * j + 1) = omega arith in
+    ap₂ cx
+    (ap (λ (i : ℕ). getD (xs ++ ys) i nan) even ∙ getD-append-add xs ys (2 * j) nan)
+    (ap (λ (i : ℕ). getD (xs ++ ys) i nan) odd ∙ getD-append-add xs ys (2 * j + 1) nan)
 
 pub cell-take : (xs : List Float) (n j : ℕ) → j < n → cell (take (2 * n) xs) j ≡ cell xs j
 cell-take xs n j l = ap₂ cx (getD-take (2 * n) xs (2 * j) nan (omega arith)) (getD-take (2 * n) xs (2 * j + 1) nan (omega arith))

@@ -1,6 +1,7 @@
 -- The laws that the proofs share, by subject.
 pub mod Flat
 pub mod Scan
+pub mod Signs
 pub mod Squares
 pub mod Words
 pub mod Unique

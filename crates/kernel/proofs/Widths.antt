@@ -1,23 +1,36 @@
 -- Where the twiddles of a stage stand at any width, and that sixteen iterations of them are fetched.
 -- Assumes nothing.
 use mathlib.Core.Path.{_≡_, refl, sym, ap, _∙_}
-use mathlib.Core.Bool.{Bool, true, false}
+use mathlib.Core.Bool.{Bool, true, false, true≢false}
 use mathlib.Core.List.{List}
+use mathlib.Core.Logic.{_⊎_, ⊎-elim}
 use Prim.Native.Nat.{ℕ, _+_, _-_, _*_, _/_, _%_, _≤_, _<_}
-use native.Mathlib.Nat.{div-one, mod-one, mul-le-mul, mul-le-mul-right, div-le-self}
+use native.Mathlib.Nat.{div-one, mod-one, mul-le-mul, mul-le-mul-right}
 use native.Mathlib.Omega.{arith}
 use native.Mathlib.Decide.{decLe, ℕ-discrete}
 use lib.Arith.{digits-lt}
+use lib.Dec.{eqb}
 use lib.ListN.{length, take, drop, length-drop}
 use lib.Seq.{take-all}
 use lib.Ieee.{Float}
+use borrow.Author.Tests.{eqb-false}
+use Rattle.twiddle.specs.Calls.{isWidth}
 use Rattle.twiddle.specs.Places.{place}
 use Rattle.twiddle.proofs.Places.{lane-place, lone-place, stands}
+use Rattle.twiddle.proofs.Verdicts.{no-width}
 use Rattle.floats.specs.declared.complex.Complex.{Complex}
 use Rattle.floats.specs.Complexes.{cell}
 use Rattle.floats.proofs.Flat.{cell-drop}
 use Rattle.kernel.specs.Floats.{lentAt}
 use Rattle.kernel.specs.Parts.{Wrote, Fetched, Fetched4}
+
+-- a width that is neither 1 nor 4 is 2
+pub two-left : (W : ℕ) → isWidth W ≡ true → (W ≡ 1 → ⊥) → eqb W 4 ≡ false → W ≡ 2
+two-left W is not-one not-four = pick (ℕ-discrete W 2)
+  where
+    pick : Dec (W ≡ 2) → W ≡ 2
+    pick (yes e) = e
+    pick (no f) = absurd (true≢false (sym is ∙ sym (no-width W not-one f (eqb-false W 4 not-four))))
 
 -- at width 1 they stand one after the other
 place-one : (M r i q : ℕ) → place M r 1 i q ≡ i * (r - 1) + (q - 1)
@@ -30,32 +43,22 @@ place-one M r i q = pick (decLe (M / 1 * 1) i)
 pub place-lt : (M r W i q : ℕ) → 0 < W → i < M → 0 < q → q < r → place M r W i q < M * (r - 1)
 place-lt M r W i q width li first last = stands M r W width i q first last li .inside
 
--- those of one iteration are evenly spaced: in whole lanes, and after them
-pub place-in : (M r W i u : ℕ) → i < M / W * W → place M r W i (u + 1) ≡ i / W * (W * (r - 1)) + i % W + u * W
-place-in M r W i u l =
+-- at width 2 those of one iteration are evenly spaced: in whole lanes, and after them
+pub place-in : (M r W i u : ℕ) → W ≡ 2 → i - i % 2 + W ≤ M → place M r W i (u + 1) ≡ (i - i % 2) * (r - 1) + i % 2 + u * W
+place-in M r W i u two l =
     let e : u + 1 - 1 ≡ u = omega arith in
-    lane-place M r W i (u + 1) l ∙ rw e (omega arith)
+    let b : i - i % 2 ≡ i / 2 * 2 = omega arith in
+    rw (two, b) (lane-place M r 2 i (u + 1) (omega (arith, two)) ∙ rw e (omega arith))
 
-pub place-past : (M r W i u : ℕ) → M / W * W ≤ i → place M r W i (u + 1) ≡ i * (r - 1) + u * 1
-place-past M r W i u l = lone-place M r W i (u + 1) l ∙ omega arith
+pub place-past : (M r W i u : ℕ) → W ≡ 2 → M < i - i % 2 + W → place M r W i (u + 1) ≡ i * (r - 1) + u * 1
+place-past M r W i u two l = rw two (lone-place M r 2 i (u + 1) (omega (arith, two)) ∙ omega arith)
 
--- the numbers of a place are small
-module _ (W M r i : ℕ) (lW : W ≤ 4) (lM : M ≤ 4096) (lr : r ≤ 8) (li : i < M) where
-  pub small-width : W * (r - 1) ≤ 4 * 7
-  small-width =
-      let a : r - 1 ≤ 7 = omega arith in
-      mul-le-mul lW a
-
-  pub small-block : i / W * (W * (r - 1)) ≤ 4096 * (4 * 7)
-  small-block =
-      let a : i / W ≤ 4096 = omega (arith, div-le-self i W) in
-      mul-le-mul a small-width
-
-  pub small-past : i * (r - 1) ≤ 4096 * 7
-  small-past =
-      let a : i ≤ 4096 = omega arith in
-      let b : r - 1 ≤ 7 = omega arith in
-      mul-le-mul a b
+-- the number of a place is small
+pub small-past : (M r i : ℕ) → M ≤ 4096 → r ≤ 8 → i < M → i * (r - 1) ≤ 4096 * 7
+small-past M r i lM lr li =
+    let a : i ≤ 4096 = omega arith in
+    let b : r - 1 ≤ 7 = omega arith in
+    mul-le-mul a b
 
 -- lane j has room among the fetched
 pub small-lane : (j r : ℕ) → j < 16 → r ≤ 8 → j * (r - 1) ≤ 15 * 7
@@ -95,19 +98,14 @@ pub here-room : (i n M r : ℕ) (tw : List Float) → i + n ≤ M → 2 * (M * (
 here-room i n M r tw l room = omega (arith, mul-le-mul-right (r - 1) l, length-drop (2 * (i * (r - 1))) tw)
 
 -- side by side: at width 1, and at width 4 after the whole lanes
-beside : (M r W i q : ℕ) → 0 < W → W ≤ 4 → (W ≡ 2 → ⊥) × (W ≡ 3 → ⊥) → (W ≡ 4 → M / 4 * 4 ≤ i) → place M r W i q ≡ i * (r - 1) + (q - 1)
-beside M r W i q some narrow other past = pick (ℕ-discrete W 1)
-  where
-    pick : Dec (W ≡ 1) → place M r W i q ≡ i * (r - 1) + (q - 1)
-    pick (yes e) = rw e (place-one M r i q)
-    pick (no f) =
-        let four : W ≡ 4 = omega (arith, f, other .0, other .1) in
-        rw four (lone-place M r 4 i q (past four))
+beside : (M r W i q : ℕ) → (W ≡ 1) ⊎ (W ≡ 4) → (W ≡ 4 → M / 4 * 4 ≤ i) → place M r W i q ≡ i * (r - 1) + (q - 1)
+beside M r W i q which past = ⊎-elim (λ one. rw one (place-one M r i q)) (λ four. rw four (lone-place M r 4 i q (past four))) which
 
-fetched-here : (i n M r W : ℕ) (tw : List Float) → 0 < W → W ≤ 4 → (W ≡ 2 → ⊥) × (W ≡ 3 → ⊥) → (W ≡ 4 → M / 4 * 4 ≤ i) → Fetched i n r (lentAt M r W tw) (drop (2 * (i * (r - 1))) tw)
-fetched-here i n M r W tw some narrow other past j q lj l lq =
+fetched-here : (i n M r W : ℕ) (tw : List Float) → (W ≡ 1) ⊎ (W ≡ 4) → (W ≡ 4 → M / 4 * 4 ≤ i)
+    → Fetched i n r (lentAt M r W tw) (drop (2 * (i * (r - 1))) tw)
+fetched-here i n M r W tw which past j q lj l lq =
     let e : i * (r - 1) + (j * (r - 1) + (q - 1)) ≡ (i + j) * (r - 1) + (q - 1) = omega arith in
-    cell-drop tw (i * (r - 1)) (j * (r - 1) + (q - 1)) ∙ ap (cell tw) (e ∙ sym (beside M r W (i + j) q some narrow other (λ four. omega (arith, past four))))
+    cell-drop tw (i * (r - 1)) (j * (r - 1) + (q - 1)) ∙ ap (cell tw) (e ∙ sym (beside M r W (i + j) q which (λ four. omega (arith, past four))))
 
 -- in whole lanes of 4
 pub fetched4-here : (i n M r : ℕ) (tw : List Float) → i % 4 ≡ 0 → n ≤ 4 → i + n ≤ M / 4 * 4
@@ -125,9 +123,9 @@ fetched4-here i n M r tw whole few inside = rw (rest (2 * (i * (r - 1))) tw) all
         cell-drop tw (i * (r - 1)) (j * 1 + (q - 1) * 4) ∙ ap (cell tw) (e ∙ sym p)
 
 -- read where they stand or fetched
-pub lent-part : (here : Bool) (i n M r W : ℕ) (tw t p : List Float) → 0 < W → W ≤ 4 → (here ≡ true → (W ≡ 2 → ⊥) × (W ≡ 3 → ⊥)) → (W ≡ 4 → M / 4 * 4 ≤ i)
+pub lent-part : (here : Bool) (i n M r W : ℕ) (tw t p : List Float) → (here ≡ true → (W ≡ 1) ⊎ (W ≡ 4)) → (W ≡ 4 → M / 4 * 4 ≤ i)
     → i + n ≤ M → n ≤ 16 → r ≤ 8 → 2 * (M * (r - 1)) ≤ length tw → length t ≡ 224
     → (here ≡ true → p ≡ drop (2 * (i * (r - 1))) tw) × (here ≡ false → p ≡ t) → (here ≡ false → Fetched i n r (lentAt M r W tw) t)
     → Fetched i n r (lentAt M r W tw) p × (2 * (n * (r - 1)) ≤ length p)
-lent-part true i n M r W tw t p some narrow other past l ln lr room lt is f = rw (is .0 refl) (fetched-here i n M r W tw some narrow (other refl) past, here-room i n M r tw l room)
-lent-part false i n M r W tw t p some narrow other past l ln lr room lt is f = rw (is .1 refl) (f refl, omega (arith, small-lanes n r ln lr, lt))
+lent-part true i n M r W tw t p which past l ln lr room lt is f = rw (is .0 refl) (fetched-here i n M r W tw (which refl) past, here-room i n M r tw l room)
+lent-part false i n M r W tw t p which past l ln lr room lt is f = rw (is .1 refl) (f refl, omega (arith, small-lanes n r ln lr, lt))

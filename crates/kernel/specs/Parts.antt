@@ -10,6 +10,7 @@ use Rattle.plan.specs.Lists.{isRadix}
 use Rattle.plan.specs.Record.{isPlanned}
 use Rattle.plan.specs.declared.Record.{Record}
 use Rattle.schedule.specs.Stage.{Arith, index, plain}
+use Rattle.twiddle.specs.Calls.{isWidth}
 use Rattle.floats.specs.declared.complex.Complex.{Complex}
 use Rattle.floats.specs.Complexes.{cx, blank, times, cell}
 use Rattle.kernel.specs.Floats.{floats}
@@ -143,8 +144,7 @@ pub record Placed (e i s r block col : ℕ) : Type 0 where
 pub record Workable (p : Record) (j W ns nt nd : ℕ) : Type 0 where
   pub planned : isPlanned p ≡ true
   pub known : j < p .count
-  pub width : 0 < W
-  pub narrow : W ≤ 4
+  pub width : isWidth W ≡ true
   pub source : ns ≡ 2 * p .half
   pub target : nd ≡ 2 * p .half
   pub lent : nt ≡ 2 * twiddleCount (p .half) (p .radices) j

@@ -8,6 +8,7 @@ use crate::question::Question;
 use crate::question::asked;
 use ends::inner::cells::postprocess_fft;
 use ends::inner::cells::preprocess_ifft;
+use ends::inner::words::conjugate;
 use records::inner::draws::fill;
 use records::inner::draws::is_kind;
 use records::inner::replay::Outcome;
@@ -112,6 +113,8 @@ fn done(question: Question, cells: &[f32], twiddles: &[f32], output: &mut [f32])
         postprocess_fft(cells, twiddles, output, h);
     } else {
         preprocess_ifft(cells, twiddles, output, h);
+        let words = 2 * h;
+        conjugate(&mut output[..words], h);
     }
     true
 }

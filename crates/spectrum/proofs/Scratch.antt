@@ -1,9 +1,12 @@
 -- Laws of a scratch: its Data, its Scratchpad and the rest, what replaces them, and what the stages leave. Assumes nothing.
 use Prim.Native.Nat.{ℕ, _+_, _-_, _*_, _≤_, _<_}
 use native.Mathlib.Omega.{arith}
-use mathlib.Core.Path.{_≡_, sym, ap, ap₂, _∙_}
+use mathlib.Core.Path.{_≡_, refl, sym, ap, ap₂, _∙_}
 use mathlib.Core.List.{List, _++_, append-assoc, append-nil}
+use mathlib.Core.Bool.{Bool, true, false, cond}
+use borrow.Author.Tests.{ltb-true, ltb-false}
 use borrow.Rule.Slice.PartMut.{putMid}
+use lib.Dec.{ltb}
 use lib.Ieee.{Float}
 use lib.ListN.{length, take, drop, length-append, length-drop, take-append-drop, drop-of-length-le}
 use lib.Seq.{length-take-le, length-front, take-at, drop-at, drop-drop, drop-append-le, take-append-le}
@@ -35,6 +38,11 @@ module _ (h : ℕ) (s : List Float) (room : 4 * h ≤ length s) where
   part-long Data = data-length
   part-long Scratchpad = pad-length
 
+-- either of two rows of a length
+pub choice-long : (t : Bool) (xs ys : List Float) (n : ℕ) → length xs ≡ n → length ys ≡ n → length (cond t xs ys) ≡ n
+choice-long true xs ys n l m = l
+choice-long false xs ys n l m = m
+
 -- the Scratchpad as it is cut out
 pub pad-part : (h : ℕ) (s : List Float) → take (2 * (2 * h) - 2 * h) (drop (2 * h) s) ≡ padOf h s
 pad-part h s =
@@ -51,7 +59,7 @@ module _ (h : ℕ) (d s : List Float) (long : length d ≡ 2 * h) where
   pub front-data : dataOf h fronted ≡ d
   front-data = take-at d (drop (2 * h) s) (2 * h) long
 
-  front-drop : drop (2 * h) fronted ≡ drop (2 * h) s
+  pub front-drop : drop (2 * h) fronted ≡ drop (2 * h) s
   front-drop = drop-at d (drop (2 * h) s) (2 * h) long
 
   pub front-pad : padOf h fronted ≡ padOf h s
@@ -94,11 +102,11 @@ pad-rest h s =
 pub data-replaced : (h : ℕ) (d s : List Float) → d ++ drop (2 * h) s ≡ withBoth h (d, padOf h s) s
 data-replaced h d s = ap (λ (r : List Float). d ++ r) (pad-rest h s) ∙ sym (append-assoc d (padOf h s) (drop (4 * h) s))
 
--- the Scratchpad alone replaced, where it was cut out
-pub pad-replaced : (h : ℕ) (e s : List Float) → putMid (2 * h) (2 * (2 * h) - 2 * h) s e ≡ withBoth h (dataOf h s, e) s
-pad-replaced h e s =
-    let twice : 2 * h + (2 * (2 * h) - 2 * h) ≡ 4 * h = omega arith in
-    ap (λ (r : List Float). dataOf h s ++ (e ++ r)) (drop-drop (2 * (2 * h) - 2 * h) (2 * h) s ∙ ap (λ (n : ℕ). drop n s) twice) ∙ sym (append-assoc (dataOf h s) e (drop (4 * h) s))
+-- the Scratchpad alone replaced
+pub pad-pasted : (h : ℕ) (e s : List Float) → length e ≡ 2 * h → pasted s (2 * h) e ≡ withBoth h (dataOf h s, e) s
+pad-pasted h e s le =
+    let twice : 2 * h + length e ≡ 4 * h = omega arith in
+    rw twice refl
 
 -- all words from n on replaced
 pub tail-replaced : (n : ℕ) (z o : List Float) → n ≤ length o → putMid n (length o - n) o z ≡ take n o ++ z
@@ -141,10 +149,26 @@ module _ (p : Record) (W : ℕ) (tw : List Float) where
         ∙ ap₂ (λ (u v : List Float). withBoth (p .half) (u, v) s) ed ee
         ∙ ap (λ (b : Two Float). withBoth (p .half) b s) (driven-pad (stageIn p W tw) xs (dataOf (p .half) o) (padOf (p .half) s) (p .count) some)
 
+    -- without a stage nothing is made
+    nothing : p .count ≡ 0 → (b : Two Float) → runOf p W tw b ≡ b
+    nothing none b = ap (λ (n : ℕ). driven (stageIn p W tw) n b) none ∙ driven-none (stageIn p W tw) b
+
     pub stages-none : p .count ≡ 0 → (d : List Float) → d ≡ beside .0 → d ++ drop (2 * p .half) s ≡ withBoth (p .half) within s
     stages-none none d ed =
-        let nothing : (b : Two Float) → runOf p W tw b ≡ b = λ b. ap (λ (n : ℕ). driven (stageIn p W tw) n b) none ∙ driven-none (stageIn p W tw) b in
-        let same : d ≡ xs = ed ∙ ap (λ (b : Two Float). b .0) (nothing (xs, dataOf (p .half) o)) in
+        let same : d ≡ xs = ed ∙ ap (λ (b : Two Float). b .0) (nothing none (xs, dataOf (p .half) o)) in
         ap (λ (u : List Float). u ++ drop (2 * p .half) s) same
         ∙ data-replaced (p .half) xs s
-        ∙ ap (λ (b : Two Float). withBoth (p .half) b s) (sym (nothing (xs, padOf (p .half) s)))
+        ∙ ap (λ (b : Two Float). withBoth (p .half) b s) (sym (nothing none (xs, padOf (p .half) s)))
+
+    -- the other buffer does for the Scratchpad, if a stage ran
+    pub within-beside : (t : Bool) → ltb 0 (p .count) ≡ t → (d e : List Float) → d ≡ beside .0 → e ≡ beside .1
+        → (d ≡ within .0) × (cond t e (padOf (p .half) s) ≡ within .1)
+    within-beside true some d e ed ee =
+        let same = driven-pad (stageIn p W tw) xs (dataOf (p .half) o) (padOf (p .half) s) (p .count) (ltb-true 0 (p .count) some) in
+        (ed ∙ ap (λ (b : Two Float). b .0) same, ee ∙ ap (λ (b : Two Float). b .1) same)
+    within-beside false none d e ed ee =
+        let zero : p .count ≡ 0 = omega (arith, ltb-false 0 (p .count) none) in (
+          ed ∙ ap (λ (b : Two Float). b .0) (nothing zero (xs, dataOf (p .half) o))
+              ∙ ap (λ (b : Two Float). b .0) (sym (nothing zero (xs, padOf (p .half) s))),
+          ap (λ (b : Two Float). b .1) (sym (nothing zero (xs, padOf (p .half) s))),
+        )

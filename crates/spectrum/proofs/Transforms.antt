@@ -1,16 +1,16 @@
 -- Laws of both directions: that the steps of the code, one after the other, make what the definitions state. Assumes nothing.
-use Prim.Native.Nat.{ℕ, _+_, _-_, _*_, _/_, _%_, _≤_, _<_}
+use Prim.Native.Nat.{ℕ, zero, suc, _+_, _-_, _*_, _/_, _%_, _≤_, _<_}
 use native.Mathlib.Omega.{arith}
 use mathlib.Core.Path.{_≡_, refl, sym, ap, ap₂, _∙_}
 use mathlib.Core.Bool.{Bool, true, false, cond}
-use mathlib.Core.List.{List, _++_}
-use lib.Dec.{eqb}
+use mathlib.Core.List.{List, _++_, append-assoc}
+use lib.Dec.{eqb, ltb}
 use borrow.Rule.Slice.PartMut.{putMid}
 use lib.Ieee.{Float}
 use lib.ListN.{length, take, drop, length-append, length-drop}
-use lib.Seq.{take-at, drop-at, drop-drop}
-use borrow.Author.Tests.{eqb-true}
-use Rattle.plan.specs.Counts.{resultIn, endCount}
+use lib.Seq.{length-take-le, take-at, drop-at, drop-drop, drop-append-le, take-append-le}
+use borrow.Author.Tests.{eqb-true, lt-ltb}
+use Rattle.plan.specs.Counts.{resultIn, bufferNumber, endCount}
 use Rattle.plan.specs.Record.{isPlanned}
 use Rattle.plan.specs.declared.Buffer.{Buffer}
 use Rattle.plan.specs.declared.Buffer.the-variants.{Data, Scratchpad}
@@ -21,10 +21,11 @@ use Rattle.stage.specs.Runs.{runOf}
 use Rattle.ends.specs.Ends.{ifftSteps, postprocess-fft, preprocess-ifft, conjugated, zeros}
 use Rattle.floats.specs.Words.{pasted}
 use Rattle.floats.proofs.Words.{front-pasted}
-use Rattle.ends.specs.Parts.{Endable}
+use Rattle.ends.specs.Parts.{prepared, Endable}
 use Rattle.ends.proofs.Cells.{length-ended, length-conjugated}
+use Rattle.ends.proofs.Prepared.{prepared-is}
 use Rattle.spectrum.specs.Transforms.{dataOf, padOf, withBoth, forwardRun, forwardOf, preparedOf, inverseRun, restored, inverseOf}
-use Rattle.spectrum.proofs.Scratch.{data-length, pad-length, pad-part, pad-replaced, data-replaced, tail-replaced, tail-length, front-data, front-pad, front-rest, both-data, both-pad, both-rest, run-long}
+use Rattle.spectrum.proofs.Scratch.{data-length, pad-length, data-replaced, tail-replaced, tail-length, front-data, front-drop, front-pad, front-rest, both-pasted, both-data, both-pad, both-rest, run-long, within-beside}
 
 -- a result is one of two buffers of a length
 pub held-long : (n : ℕ) (which : Buffer) (b : Two Float) → length (b .0) ≡ n → length (b .1) ≡ n → length (heldIn which b) ≡ n
@@ -34,12 +35,6 @@ held-long n Scratchpad b l m = m
 -- two buffers that equal two others
 two : {b c : Two Float} → b .0 ≡ c .0 → b .1 ≡ c .1 → _≡_ {A = Two Float} b c
 two e f = λ i. (e i, f i)
-
--- the stages on a scratch s1 whose Data is xs and whose rest is that of s
-module _ (p : Record) (W : ℕ) (stage s s1 : List Float) (b : Two Float) (ed : dataOf (p .half) s1 ≡ b .0) (ep : padOf (p .half) s1 ≡ b .1) (er : drop (4 * p .half) s1 ≡ drop (4 * p .half) s) where
-  pub staged : (s2 : List Float) → s2 ≡ withBoth (p .half) (runOf p W stage (dataOf (p .half) s1, padOf (p .half) s1)) s1 → s2 ≡ withBoth (p .half) (runOf p W stage b) s
-  staged s2 e =
-      e ∙ ap₂ (λ (c : Two Float) (r : List Float). runOf p W stage c .0 ++ runOf p W stage c .1 ++ r) (two {b = (dataOf (p .half) s1, padOf (p .half) s1)} {c = b} ed ep) er
 
 -- ---- forward
 
@@ -64,12 +59,16 @@ module _ (p : Record) (W : ℕ) (stage end xs s : List Float) (samples : length 
 -- ---- inverse
 
 -- the bins prepared and conjugated
-pub prepare-made : (h : ℕ) (end xs s q d : List Float) → q ≡ preprocess-ifft h end xs → d ≡ conjugated h (take (2 * h) (q ++ drop (2 * (h + 1)) s))
-    → d ++ drop (2 * h) (q ++ drop (2 * (h + 1)) s) ≡ conjugated h (dataOf h (preparedOf h end xs s)) ++ drop (2 * h) (preparedOf h end xs s)
+pub prepare-made : (h : ℕ) (end xs s q : List Float) → 0 < h → q ≡ prepared h end xs
+    → q ++ drop (2 * (h + 1)) s ≡ conjugated h (dataOf h (preparedOf h end xs s)) ++ drop (2 * h) (preparedOf h end xs s)
 unfolding preparedOf
-prepare-made h end xs s q d eq ed =
-    let whole : q ++ drop (2 * (h + 1)) s ≡ preprocess-ifft h end xs ++ drop (2 * (h + 1)) s = ap (λ (u : List Float). u ++ drop (2 * (h + 1)) s) eq in
-    ap₂ (λ (u v : List Float). u ++ drop (2 * h) v) (ed ∙ ap (λ (v : List Float). conjugated h (take (2 * h) v)) whole) whole
+prepare-made h end xs s q some e =
+    let made = preprocess-ifft h end xs in
+    let rest = drop (2 * (h + 1)) s in
+    let long : 2 * h ≤ length made = omega (arith, length-ended ifftSteps h end xs) in
+    ap (λ (u : List Float). u ++ rest) (e ∙ prepared-is ifftSteps h end xs some)
+    ∙ append-assoc (conjugated h (take (2 * h) made)) (drop (2 * h) made) rest
+    ∙ ap₂ (λ (u v : List Float). conjugated h u ++ v) (sym (take-append-le (2 * h) made rest long)) (sym (drop-append-le (2 * h) made rest long))
 
 -- what is prepared is as long as the scratch, and its rest is the scratch's
 module _ (h : ℕ) (end xs s : List Float) (some : 0 < h) (room : 4 * h ≤ length s) where
@@ -88,23 +87,91 @@ module _ (h : ℕ) (end xs s : List Float) (some : 0 < h) (room : 4 * h ≤ leng
       ∙ ap (drop (2 * h - 2)) (drop-at (preprocess-ifft h end xs) (drop (2 * (h + 1)) s) (2 * (h + 1)) (length-ended ifftSteps h end xs))
       ∙ drop-drop (2 * h - 2) (2 * (h + 1)) s)
 
--- the Scratchpad conjugated, and copied to Data through another buffer
-pub pad-restored : (h : ℕ) (s o e o1 s2 : List Float) → 4 * h ≤ length s → e ≡ conjugated h (take (2 * (2 * h) - 2 * h) (drop (2 * h) s))
-    → o1 ≡ padOf h (putMid (2 * h) (2 * (2 * h) - 2 * h) s e) ++ drop (2 * h) o → s2 ≡ pasted (putMid (2 * h) (2 * (2 * h) - 2 * h) s e) 0 (take (2 * h) o1)
-    → s2 ≡ withBoth h (conjugated h (padOf h s), conjugated h (padOf h s)) s
-pad-restored h s o e o1 s2 room ee eo e2 =
-    let e′ : e ≡ conjugated h (padOf h s) = ee ∙ ap (conjugated h) (pad-part h s) in
-    let le : length e ≡ 2 * h = ap length e′ ∙ length-conjugated h (padOf h s) in
-    let b : Two Float = (dataOf h s, e) in
-    let s1 : putMid (2 * h) (2 * (2 * h) - 2 * h) s e ≡ withBoth h b s = pad-replaced h e s in
-    let held : padOf h (putMid (2 * h) (2 * (2 * h) - 2 * h) s e) ≡ e = ap (padOf h) s1 ∙ both-pad h b s (data-length h s room) le in
-    let front : take (2 * h) o1 ≡ e = ap (take (2 * h)) (eo ∙ ap (λ (u : List Float). u ++ drop (2 * h) o) held) ∙ take-at e (drop (2 * h) o) (2 * h) le in
-    e2
-    ∙ ap₂ (λ (u v : List Float). pasted u 0 v) s1 front
-    ∙ front-pasted (withBoth h b s) e (2 * h) le
-    ∙ data-replaced h e (withBoth h b s)
-    ∙ ap₂ (λ (u v : List Float). e ++ u ++ v) (both-pad h b s (data-length h s room) le) (both-rest h b s (data-length h s room) le)
-    ∙ ap (λ (u : List Float). u ++ u ++ drop (4 * h) s) e′
+-- Data conjugated and copied to the output, with x in the Scratchpad
+pub data-restored : (h : ℕ) (s o x s1 s2 o1 : List Float) → 4 * h ≤ length s → length x ≡ 2 * h → s1 ≡ withBoth h (dataOf h s, x) s
+    → s2 ≡ conjugated h (dataOf h s1) ++ drop (2 * h) s1 → o1 ≡ pasted o 0 (dataOf h s2)
+    → (s2 ≡ withBoth h (conjugated h (dataOf h s), x) s) × (o1 ≡ conjugated h (dataOf h s) ++ drop (2 * h) o)
+data-restored h s o x s1 s2 o1 room lx e1 e2 e3 =
+    let c : List Float = conjugated h (dataOf h s) in
+    let lc : length c ≡ 2 * h = length-conjugated h (dataOf h s) in
+    let b : Two Float = (dataOf h s, x) in
+    let ld = data-length h s room in
+    let d : dataOf h s1 ≡ dataOf h s = ap (dataOf h) e1 ∙ both-data h b s ld lx in
+    let p : padOf h s1 ≡ x = ap (padOf h) e1 ∙ both-pad h b s ld lx in
+    let r : drop (4 * h) s1 ≡ drop (4 * h) s = ap (drop (4 * h)) e1 ∙ both-rest h b s ld lx in
+    let f : s2 ≡ c ++ drop (2 * h) s1 = e2 ∙ ap (λ (u : List Float). conjugated h u ++ drop (2 * h) s1) d in (
+      f ∙ data-replaced h c s1 ∙ ap₂ (λ (u v : List Float). c ++ u ++ v) p r,
+      e3 ∙ ap (pasted o 0) (ap (dataOf h) f ∙ front-data h c s1 lc) ∙ front-pasted o c (2 * h) lc,
+    )
+
+-- the output conjugated and copied to both buffers
+pub pad-restored : (h : ℕ) (s o o1 s1 s2 : List Float) → o1 ≡ conjugated h (dataOf h o) ++ drop (2 * h) o → s1 ≡ pasted s 0 (dataOf h o1)
+    → s2 ≡ pasted s1 (2 * h) (dataOf h o1) → s2 ≡ withBoth h (conjugated h (dataOf h o), conjugated h (dataOf h o)) s
+pad-restored h s o o1 s1 s2 e1 e2 e3 =
+    let c : List Float = conjugated h (dataOf h o) in
+    let lc : length c ≡ 2 * h = length-conjugated h (dataOf h o) in
+    let g : dataOf h o1 ≡ c = ap (dataOf h) e1 ∙ front-data h c o lc in
+    let f : s1 ≡ c ++ drop (2 * h) s = e2 ∙ ap (pasted s 0) g ∙ front-pasted s c (2 * h) lc in
+    e3 ∙ ap₂ (λ (u v : List Float). pasted u (2 * h) v) f g ∙ both-pasted h c s lc c lc
+
+-- the result is in the Scratchpad only if stages ran
+ran-pad : (count : ℕ) → resultIn count ≡ Scratchpad → 0 < count
+unfolding resultIn
+ran-pad zero e = absurd (let z : _≡_ {A = ℕ} 0 1 = ap bufferNumber e in omega arith)
+ran-pad (suc n) e = omega arith
+
+-- what the stages make of Data and the other buffer, restored
+module _ (p : Record) (W : ℕ) (tw s o : List Float) (room : 4 * p .half ≤ length s) (other : 2 * p .half ≤ length o)
+    (d e : List Float) (ed : d ≡ runOf p W tw (dataOf (p .half) s, dataOf (p .half) o) .0) (ee : e ≡ runOf p W tw (dataOf (p .half) s, dataOf (p .half) o) .1) where
+  abbrev h : ℕ
+  h = p .half
+
+  -- what is to be restored, and what is to be left
+  abbrev run : Two Float
+  run = runOf p W tw (dataOf h s, padOf h s)
+
+  abbrev left : Two Float
+  left = restored h (resultIn (p .count)) run
+
+  lens : (length d ≡ 2 * h) × (length e ≡ 2 * h)
+  lens =
+      let l = run-long p W tw (dataOf h s, dataOf h o) (data-length h s room) (length-take-le (2 * h) o other) in
+      (ap length ed ∙ l .0, ap length ee ∙ l .1)
+
+  pub from-data : (s3 o3 : List Float) → resultIn (p .count) ≡ Data
+      → s3 ≡ withBoth h (conjugated h (dataOf h (d ++ drop (2 * h) s)), cond (ltb 0 (p .count)) (dataOf h (e ++ drop (2 * h) o)) (padOf h (d ++ drop (2 * h) s))) (d ++ drop (2 * h) s)
+      → o3 ≡ conjugated h (dataOf h (d ++ drop (2 * h) s)) ++ drop (2 * h) (e ++ drop (2 * h) o)
+      → (s3 ≡ withBoth h left s) × (o3 ≡ left .0 ++ drop (2 * h) o)
+  from-data s3 o3 told es eo =
+      let w = within-beside p W tw (dataOf h s) s o (data-length h s room) room other (ltb 0 (p .count)) refl d e ed ee in
+      let fd : dataOf h (d ++ drop (2 * h) s) ≡ run .0 = front-data h d s (lens .0) ∙ w .0 in
+      let fe : cond (ltb 0 (p .count)) (dataOf h (e ++ drop (2 * h) o)) (padOf h (d ++ drop (2 * h) s)) ≡ run .1
+      = ap₂ (λ (u v : List Float). cond (ltb 0 (p .count)) u v) (front-data h e o (lens .1)) (front-pad h d s (lens .0)) ∙ w .1 in
+      let back : _≡_ {A = Two Float} (conjugated h (run .0), run .1) left = ap (λ (k : Buffer). restored h k run) (sym told) in (
+        es
+            ∙ ap₂ (λ (u v : List Float). conjugated h u ++ v ++ drop (4 * h) (d ++ drop (2 * h) s)) fd fe
+            ∙ ap (λ (t : List Float). conjugated h (run .0) ++ run .1 ++ t) (front-rest h d s (lens .0))
+            ∙ ap (λ (b : Two Float). withBoth h b s) back,
+        eo
+            ∙ ap₂ (λ (u v : List Float). conjugated h u ++ v) fd (front-drop h e o (lens .1))
+            ∙ ap (λ (b : Two Float). b .0 ++ drop (2 * h) o) back,
+      )
+
+  pub from-pad : (s3 o3 : List Float) → resultIn (p .count) ≡ Scratchpad
+      → s3 ≡ withBoth h (conjugated h (dataOf h (e ++ drop (2 * h) o)), conjugated h (dataOf h (e ++ drop (2 * h) o))) (d ++ drop (2 * h) s)
+      → o3 ≡ conjugated h (dataOf h (e ++ drop (2 * h) o)) ++ drop (2 * h) (e ++ drop (2 * h) o)
+      → (s3 ≡ withBoth h left s) × (o3 ≡ left .0 ++ drop (2 * h) o)
+  from-pad s3 o3 told es eo =
+      let w = within-beside p W tw (dataOf h s) s o (data-length h s room) room other true (lt-ltb 0 (p .count) (ran-pad (p .count) told)) d e ed ee in
+      let fe : dataOf h (e ++ drop (2 * h) o) ≡ run .1 = front-data h e o (lens .1) ∙ w .1 in
+      let back : _≡_ {A = Two Float} (conjugated h (run .1), conjugated h (run .1)) left = ap (λ (k : Buffer). restored h k run) (sym told) in (
+        es
+            ∙ ap₂ (λ (u v : List Float). conjugated h u ++ conjugated h u ++ v) fe (front-rest h d s (lens .0))
+            ∙ ap (λ (b : Two Float). withBoth h b s) back,
+        eo
+            ∙ ap₂ (λ (u v : List Float). conjugated h u ++ v) fe (front-drop h e o (lens .1))
+            ∙ ap (λ (b : Two Float). b .0 ++ drop (2 * h) o) back,
+      )
 
 module _ (p : Record) (W : ℕ) (stage end xs s : List Float) (some : 0 < p .half) (room : 4 * p .half ≤ length s) where
   -- what is prepared, and what the stages start from
@@ -130,40 +197,40 @@ module _ (p : Record) (W : ℕ) (stage end xs s : List Float) (some : 0 < p .hal
   restored-long Data b m = (search (length-conjugated), search (length-conjugated, m))
   restored-long Scratchpad b m = (search (length-conjugated), search (length-conjugated))
 
-  pub invert-made : (s1 s2 s3 : List Float) (which : Buffer) (n : ℕ) → s1 ≡ conjugated (p .half) (dataOf (p .half) q) ++ drop (2 * p .half) q
-      → s2 ≡ withBoth (p .half) (runOf p W stage (dataOf (p .half) s1, padOf (p .half) s1)) s1 → which ≡ resultIn (p .count)
-      → s3 ≡ withBoth (p .half) (restored (p .half) which (dataOf (p .half) s2, padOf (p .half) s2)) s2 → s3 ≡ inverseOf p W stage end xs s n .1
-  unfolding inverseOf inverseRun
-  invert-made s1 s2 s3 which n e1 e2 ew e3 =
-      let h = p .half in
-      let long = length-conjugated h (dataOf h q) in
-      let b : Two Float = runOf p W stage started in
-      let lens : (length (b .0) ≡ 2 * h) × (length (b .1) ≡ 2 * h) = run-long p W stage started long started-pad in
-      let s2′ : s2 ≡ withBoth h b s
-      = staged p W stage s s1 started (ap (dataOf h) e1 ∙ front-data h (started .0) q long) (ap (padOf h) e1 ∙ front-pad h (started .0) q long)
-      (ap (drop (4 * h)) e1 ∙ front-rest h (started .0) q long ∙ prepared-rest h end xs s some room) s2 e2 in
-      let d : dataOf h s2 ≡ b .0 = ap (dataOf h) s2′ ∙ both-data h b s (lens .0) (lens .1) in
-      let g : padOf h s2 ≡ b .1 = ap (padOf h) s2′ ∙ both-pad h b s (lens .0) (lens .1) in
-      let r : drop (4 * h) s2 ≡ drop (4 * h) s = ap (drop (4 * h)) s2′ ∙ both-rest h b s (lens .0) (lens .1) in
-      let same : _≡_ {A = Two Float} (restored h which (dataOf h s2, padOf h s2)) (restored h (resultIn (p .count)) b)
-      = ap₂ (λ (w : Buffer) (c : Two Float). restored h w c) ew (two {b = (dataOf h s2, padOf h s2)} {c = b} d g) in
-      e3 ∙ ap₂ (λ (c : Two Float) (t : List Float). c .0 ++ c .1 ++ t) same r
+  module _ (s1 : List Float) (e1 : s1 ≡ conjugated (p .half) (dataOf (p .half) q) ++ drop (2 * p .half) q) where
+    -- what is restored of the stages on s1
+    abbrev back : Two Float
+    back = restored (p .half) (resultIn (p .count)) (runOf p W stage (dataOf (p .half) s1, padOf (p .half) s1))
 
-  -- the samples are Data's, and +0 beyond
-  pub inverse-made : (s3 o o1 z : List Float) (n : ℕ) → n ≡ length o → 2 * p .half ≤ n → s3 ≡ inverseOf p W stage end xs s n .1
-      → o1 ≡ dataOf (p .half) s3 ++ drop (2 * p .half) o → z ≡ zeros (length (take (length o1 - 2 * p .half) (drop (2 * p .half) o1)))
-      → putMid (2 * p .half) (length o1 - 2 * p .half) o1 z ≡ inverseOf p W stage end xs s n .0
-  unfolding inverseOf
-  inverse-made s3 o o1 z n en ln e3 eo ez =
-      let h = p .half in
-      let lens = restored-long (resultIn (p .count)) (inverseRun p W stage end xs s) (back-long .1) in
-      let d : dataOf h s3 ≡ ended-with .0 = ap (dataOf h) e3 ∙ both-data h ended-with s (lens .0) (lens .1) in
-      let f : o1 ≡ ended-with .0 ++ drop (2 * h) o = eo ∙ ap (λ (u : List Float). u ++ drop (2 * h) o) d in
-      let many : length o1 ≡ n
-      = ap length f ∙ length-append (ended-with .0) (drop (2 * h) o) ∙ omega (arith, lens .0, length-drop (2 * h) o, en, ln) in
-      let front : take (2 * h) o1 ≡ ended-with .0 = ap (take (2 * h)) f ∙ take-at (ended-with .0) (drop (2 * h) o) (2 * h) (lens .0) in
-      tail-replaced (2 * h) z o1 (omega (arith, many, ln))
-      ∙ ap₂ (λ (u v : List Float). u ++ v) front (ez ∙ ap zeros (tail-length (2 * h) o1 ∙ ap (λ (k : ℕ). k - 2 * h) many))
+    back-is : back ≡ ended-with
+    unfolding inverseRun
+    back-is =
+        let h = p .half in
+        let long = length-conjugated h (dataOf h q) in
+        ap (λ (c : Two Float). restored h (resultIn (p .count)) (runOf p W stage c))
+        (two {b = (dataOf h s1, padOf h s1)} {c = started} (ap (dataOf h) e1 ∙ front-data h (started .0) q long) (ap (padOf h) e1 ∙ front-pad h (started .0) q long))
+
+    pub invert-made : (s3 : List Float) (n : ℕ) → s3 ≡ withBoth (p .half) back s1 → s3 ≡ inverseOf p W stage end xs s n .1
+    unfolding inverseOf
+    invert-made s3 n e3 =
+        let h = p .half in
+        let rest : drop (4 * h) s1 ≡ drop (4 * h) s = ap (drop (4 * h)) e1 ∙ front-rest h (started .0) q (length-conjugated h (dataOf h q)) ∙ prepared-rest h end xs s some room in
+        e3 ∙ ap₂ (λ (c : Two Float) (t : List Float). c .0 ++ c .1 ++ t) back-is rest
+
+    -- the samples are Data's, and +0 beyond
+    pub inverse-made : (o o1 z : List Float) (n : ℕ) → n ≡ length o → 2 * p .half ≤ n → o1 ≡ back .0 ++ drop (2 * p .half) o
+        → z ≡ zeros (length (take (length o1 - 2 * p .half) (drop (2 * p .half) o1)))
+        → putMid (2 * p .half) (length o1 - 2 * p .half) o1 z ≡ inverseOf p W stage end xs s n .0
+    unfolding inverseOf
+    inverse-made o o1 z n en ln eo ez =
+        let h = p .half in
+        let lens = restored-long (resultIn (p .count)) (inverseRun p W stage end xs s) (back-long .1) in
+        let f : o1 ≡ ended-with .0 ++ drop (2 * h) o = eo ∙ ap (λ (b : Two Float). b .0 ++ drop (2 * h) o) back-is in
+        let many : length o1 ≡ n
+        = ap length f ∙ length-append (ended-with .0) (drop (2 * h) o) ∙ omega (arith, lens .0, length-drop (2 * h) o, en, ln) in
+        let front : take (2 * h) o1 ≡ ended-with .0 = ap (take (2 * h)) f ∙ take-at (ended-with .0) (drop (2 * h) o) (2 * h) (lens .0) in
+        tail-replaced (2 * h) z o1 (omega (arith, many, ln))
+        ∙ ap₂ (λ (u v : List Float). u ++ v) front (ez ∙ ap zeros (tail-length (2 * h) o1 ∙ ap (λ (k : ℕ). k - 2 * h) many))
 
 -- ---- what an accepted plan gives
 

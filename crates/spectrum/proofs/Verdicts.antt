@@ -18,7 +18,6 @@ use Rattle.plan.specs.Counts.{stageTwiddles, endCount}
 use Rattle.plan.specs.Record.{isPlanned}
 use Rattle.plan.specs.declared.Record.{Record}
 use Rattle.twiddle.specs.Calls.{isWidth}
-use Rattle.twiddle.proofs.Verdicts.{width-bounds}
 use Rattle.floats.specs.Scan.{fits, firstUnfit}
 use Rattle.floats.proofs.Scan.{joined-first, joined-second}
 use Rattle.spectrum.specs.Calls.{binWords, sizeRows, numberRows, sizeVerdict, numberVerdict, lentVerdict}
@@ -161,11 +160,9 @@ pub forwardable : (p : Record) (W : ℕ) (input output : Bool) (ni nw scratch k 
     → v ≡ lentVerdict p W input output scratch k xs stage end → v ≡ Accepted → Forwardable p W ni nw scratch (length stage) (length end)
 forwardable p W input output ni nw scratch k xs stage end v ei eo told e =
     let t = lent-taken p W input output scratch k xs stage end (sym told ∙ e) in
-    let w = width-bounds W (t .width) in
     record {
       planned = t .planned;
-      width = w .0;
-      narrow = w .1;
+      width = t .width;
       samples = eqb-true ni (p .n) (sym ei ∙ t .long);
       bins = eqb-true nw (binWords p) (sym eo ∙ t .wide);
       room = omega (arith, t .room, plan-twice p (t .planned));
@@ -177,11 +174,9 @@ pub invertible : (p : Record) (W : ℕ) (input output : Bool) (ni nw scratch k :
     → v ≡ lentVerdict p W input output scratch k xs stage end → v ≡ Accepted → Invertible p W ni nw scratch (length stage) (length end)
 invertible p W input output ni nw scratch k xs stage end v ei eo told e =
     let t = lent-taken p W input output scratch k xs stage end (sym told ∙ e) in
-    let w = width-bounds W (t .width) in
     record {
       planned = t .planned;
-      width = w .0;
-      narrow = w .1;
+      width = t .width;
       bins = eqb-true ni (binWords p) (sym ei ∙ t .long);
       samples = ltb-false nw (p .n) (not-true _ (sym eo ∙ t .wide));
       room = omega (arith, t .room, plan-twice p (t .planned));

@@ -85,6 +85,6 @@ accepted-any-width p j W W′ xs output tw tw′ accepted wide same agree =
     let w = t .workable in
     let lent = same ∙ w .lent in
     let cells : (n : ℕ) → n < twiddleCount (p .half) (p .radices) j → BothPass (fits 0) (cell tw′ n)
-    = own-alike (BothPass (fits 0)) W W′ (w .width) (width-bounds W′ wide .0) p (w .planned) j (w .known) (cell tw) (cell tw′) (λ later. agree) (λ n l. cell-passes (fits 0) tw (t .twiddles) n (omega (arith, w .lent))) in
+    = own-alike (BothPass (fits 0)) W W′ (width-bounds W (w .width) .0) (width-bounds W′ wide .0) p (w .planned) j (w .known) (cell tw) (cell tw′) (λ later. agree) (λ n l. cell-passes (fits 0) tw (t .twiddles) n (omega (arith, w .lent))) in
     let sized = all-sized p j W′ (length xs) output (length tw′) (w .planned) (w .known) wide (w .source) (w .target) lent in
     sym (all-fit xs tw′ _ refl (t .numbers) _ refl (no-cell-fails (fits 0) tw′ (twiddleCount (p .half) (p .radices) j) lent cells) ∙ numbers-decide p j W′ xs output tw′ Accepted sized refl)

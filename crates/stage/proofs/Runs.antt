@@ -46,7 +46,6 @@ module _ (p : Record) (k W ns nd start : ℕ) (tw own : List Float) (h : Steppab
         planned = h .planned;
         known = h .known;
         width = h .width;
-        narrow = h .narrow;
         source = h .source;
         target = h .target;
         lent = ap length same ∙ own-length p k tw (h .known) (h .lent);
@@ -67,7 +66,7 @@ module _ {p : Record} {W nd ns nt : ℕ} (h : Drivable p W nd ns nt) where
   pub steppable : (k : ℕ) → k < p .count → (read written start : ℕ) → read ≡ 2 * p .half → written ≡ 2 * p .half → start ≡ twiddleStart (p .half) (p .radices) k
       → Steppable p k W read written nt start
   steppable k l read written start es ed et =
-      record { planned = h .planned; known = l; width = h .width; narrow = h .narrow; source = es; target = ed; lent = h .lent; starts = et }
+      record { planned = h .planned; known = l; width = h .width; source = es; target = ed; lent = h .lent; starts = et }
 
 -- ---- the stages after the first
 

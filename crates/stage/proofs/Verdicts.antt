@@ -16,7 +16,6 @@ use Rattle.plan.specs.Counts.{twiddleCount}
 use Rattle.plan.specs.Record.{isPlanned}
 use Rattle.plan.specs.declared.Record.{Record}
 use Rattle.twiddle.specs.Calls.{isWidth}
-use Rattle.twiddle.proofs.Verdicts.{width-bounds}
 use Rattle.floats.specs.Scan.{firstUnfit}
 use Rattle.kernel.specs.Parts.{Workable}
 use Rattle.stage.specs.Calls.{sizeRows, numberRows, sizeVerdict, numberVerdict, stageVerdict}
@@ -107,14 +106,12 @@ stage-taken p j W xs output tw t =
     let g = accepted-by (not (eqb (length tw) (2 * twiddleCount (p .half) (p .radices) j))) (Length 3) _ (f .1) in
     let h = accepted-by (ltb (firstUnfit 48 xs) (length xs)) (Number (firstUnfit 48 xs)) _ (g .1) in
     let i = accepted-by (ltb (firstUnfit 0 tw) (length tw)) (Twiddle (firstUnfit 0 tw)) _ (h .1) in
-    let w = width-bounds W (not-false _ (d .0)) in
     record {
       workable =
           record {
             planned = not-false _ (a .0);
             known = ltb-true j (p .count) (not-false _ (b .0));
-            width = w .0;
-            narrow = w .1;
+            width = not-false _ (d .0);
             source = eqb-true (length xs) (2 * p .half) (not-false _ (e .0));
             target = eqb-true output (2 * p .half) (not-false _ (f .0));
             lent = eqb-true (length tw) _ (not-false _ (g .0));

@@ -11,6 +11,7 @@ use Rattle.plan.specs.declared.Record.{Record}
 use Rattle.schedule.specs.Buffers.{Two, driven}
 use Rattle.schedule.specs.Plans.{inUse}
 use Rattle.schedule.specs.Stage.{twiddleTurn}
+use Rattle.twiddle.specs.Calls.{isWidth}
 use Rattle.twiddle.specs.Places.{place}
 use Rattle.floats.specs.declared.complex.Complex.{Complex}
 use Rattle.floats.specs.Complexes.{cell}
@@ -55,8 +56,7 @@ Alike p W W′ tw tw′ = AgreeAll p (lentTo p W tw) (lentTo p W′ tw′)
 -- what the driver asks of a plan, a width, two buffers and the twiddles of all stages, of so many words
 pub record Drivable (p : Record) (W nd ns nt : ℕ) : Type 0 where
   pub planned : isPlanned p ≡ true
-  pub width : 0 < W
-  pub narrow : W ≤ 4
+  pub width : isWidth W ≡ true
   pub long : nd ≡ 2 * p .half
   pub wide : ns ≡ 2 * p .half
   pub lent : nt ≡ 2 * stageTwiddles p
@@ -65,8 +65,7 @@ pub record Drivable (p : Record) (W nd ns nt : ℕ) : Type 0 where
 pub record Steppable (p : Record) (k W ns nd nt start : ℕ) : Type 0 where
   pub planned : isPlanned p ≡ true
   pub known : k < p .count
-  pub width : 0 < W
-  pub narrow : W ≤ 4
+  pub width : isWidth W ≡ true
   pub source : ns ≡ 2 * p .half
   pub target : nd ≡ 2 * p .half
   pub lent : nt ≡ 2 * stageTwiddles p

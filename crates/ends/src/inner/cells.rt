@@ -10,10 +10,10 @@ use floats::inner::cells::put;
 use floats::inner::words::paste;
 ghost use mathlib.Core.Path.{_≡_};
 ghost use lib.ListN.{length};
-ghost use Rattle.ends.specs.Ends.{stepsOf, ended, postprocess-fft, preprocess-ifft};
+ghost use Rattle.ends.specs.Ends.{ended, postprocess-fft};
 ghost use Prim.Native.Nat.{_+_, _*_, _≤_, _<_};
 ghost use Rattle.floats.specs.Complexes.{cell, putCell};
-ghost use Rattle.ends.specs.Parts.{Endable, EndsAs, Batchable, Batched, Stepped};
+ghost use Rattle.ends.specs.Parts.{stepsOf, prepared, Endable, EndsAs, Batchable, Batched, Stepped};
 
 // Two cells, written.
 fn put_both(cells: &mut [f32], i: usize, j: usize, y: Complex, z: Complex)
@@ -121,10 +121,10 @@ pub fn postprocess_fft(cells: &[f32], twiddles: &[f32], out: &mut [f32], h: usiz
     end(cells, Complex { re: 0.0, im: 0.0 }, twiddles, out, h, true);
 }
 
-// From h + 1 bins to the h complex inputs of the stages; bin h stays in its cell.
+// From h + 1 bins to the h complex inputs of the stages, conjugated; bin h stays in its cell.
 pub fn preprocess_ifft(cells: &[f32], twiddles: &[f32], out: &mut [f32], h: usize)
     requires { ⌜ Endable h (length (now out)) (length (now twiddles)) × (2 * (h + 1) ≤ length (now cells)) ⌝ }
-    ensures { λ _. ⌜ now (out .exit) ≡ preprocess-ifft h (now (twiddles .entry)) (now (cells .entry)) ⌝ }
+    ensures { λ _. ⌜ now (out .exit) ≡ prepared h (now (twiddles .entry)) (now (cells .entry)) ⌝ }
 {
     end(cells, get(cells, h), twiddles, out, h, false);
 }

@@ -1,6 +1,7 @@
 // What a pair of cells a and b becomes with its end twiddle t.
 use floats::complex::Complex;
 ghost use mathlib.Core.Path.{_≡_};
+ghost use Rattle.floats.specs.Complexes.{conjugate};
 ghost use Rattle.ends.specs.Ends.{mixed, fftNear, fftFar, ifftNear, ifftFar};
 
 // The sum and the difference of a pair, mixed by its twiddle.
@@ -39,28 +40,28 @@ pub fn fft_far(a: Complex, b: Complex, t: Complex) -> Complex
     }
 }
 
-// Cell k, from bins k and h - k.
+// Cell k, from bins k and h - k, conjugated.
 pub fn ifft_near(a: Complex, b: Complex, t: Complex) -> Complex
-    ensures { λ r. ⌜ r ≡ ifftNear a b t ⌝ }
+    ensures { λ r. ⌜ r ≡ conjugate (ifftNear a b t) ⌝ }
 {
     let s = a.add(b);
     let d = a.sub(b);
     let m = mix(s, d, t);
     Complex {
         re: s.re - m.re,
-        im: d.im - m.im,
+        im: -(d.im - m.im),
     }
 }
 
-// Cell h - k, from the same.
+// Cell h - k, from the same, conjugated.
 pub fn ifft_far(a: Complex, b: Complex, t: Complex) -> Complex
-    ensures { λ r. ⌜ r ≡ ifftFar a b t ⌝ }
+    ensures { λ r. ⌜ r ≡ conjugate (ifftFar a b t) ⌝ }
 {
     let s = a.add(b);
     let d = a.sub(b);
     let m = mix(s, d, t);
     Complex {
         re: s.re + m.re,
-        im: -m.im - d.im,
+        im: -(-m.im - d.im),
     }
 }

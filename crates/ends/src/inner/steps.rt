@@ -1,11 +1,11 @@
-// The steps of either direction: forward to bins, else to cells.
+// The steps of either direction: forward to bins, else to cells, which are conjugated.
 use crate::inner::pairs::fft_far;
 use crate::inner::pairs::fft_near;
 use crate::inner::pairs::ifft_far;
 use crate::inner::pairs::ifft_near;
 use floats::complex::Complex;
 ghost use mathlib.Core.Path.{_≡_};
-ghost use Rattle.ends.specs.Ends.{stepsOf};
+ghost use Rattle.ends.specs.Parts.{stepsOf};
 
 // Cell 0, from cells 0 and h.
 pub fn first(x: Complex, y: Complex, forward: bool) -> Complex
@@ -21,7 +21,7 @@ pub fn first(x: Complex, y: Complex, forward: bool) -> Complex
     let d = x.sub(y);
     Complex {
         re: s.re - s.im,
-        im: d.re - d.im,
+        im: -(d.re - d.im),
     }
 }
 
@@ -65,5 +65,5 @@ pub fn far(a: Complex, b: Complex, t: Complex, forward: bool) -> Complex
 pub fn centre(c: Complex, forward: bool) -> Complex
     ensures { λ r. ⌜ r ≡ stepsOf forward .centre c ⌝ }
 {
-    if forward { c.conj() } else { c.add(c).conj() }
+    if forward { c.conj() } else { c.add(c) }
 }

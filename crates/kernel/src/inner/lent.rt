@@ -1,10 +1,12 @@
-// The lent twiddles of sixteen iterations: read where they stand, or fetched from their places at any width, one iteration after the other.
+// The lent twiddles of sixteen iterations: read where they stand, or, packed for width 2, fetched from their places, one iteration after the other.
 use floats::inner::cells::get;
 use floats::inner::cells::put;
 ghost use mathlib.Core.Path.{_≡_};
 ghost use mathlib.Core.Bool.{true, false};
+ghost use mathlib.Core.Logic.{_⊎_};
 ghost use Prim.Native.Nat.{ℕ, _+_, _-_, _*_, _<_, _≤_};
 ghost use lib.ListN.{length, drop};
+ghost use Rattle.twiddle.specs.Calls.{isWidth};
 ghost use Rattle.floats.specs.Complexes.{cell};
 ghost use Rattle.kernel.specs.Floats.{lentAt};
 ghost use Rattle.kernel.specs.Parts.{Lending, Fetched, Wrote};
@@ -22,14 +24,15 @@ fn gather(tw: &[f32], t: &mut [f32], at: usize, from: usize, n: usize, step: usi
     }
 }
 
-// The twiddles of iteration i, to those of iteration j of t.
+// The twiddles of iteration i, packed for width 2, to those of iteration j of t.
 fn fetch_one(tw: &[f32], t: &mut [f32], j: usize, i: usize, m: usize, r: usize, w: usize)
-    requires { ⌜ Lending m r (length (now tw)) (length (now t)) × (0 < w) × (w ≤ 4) × (i < m) × (j < 16) ⌝ }
+    requires { ⌜ Lending m r (length (now tw)) (length (now t)) × (w ≡ 2) × (i < m) × (j < 16) ⌝ }
     ensures { λ _. ⌜ Wrote (λ u. lentAt m r w (now (tw .entry)) i (u + 1)) (j * (r - 1)) (r - 1) (now (t .entry)) (now (t .exit)) ⌝ }
 {
     let d = r - 1;
-    if i < m / w * w {
-        gather(tw, t, j * d, i / w * (w * d) + i % w, d, w);
+    let lane = i % 2;
+    if i - lane + w <= m {
+        gather(tw, t, j * d, (i - lane) * d + lane, d, w);
     } else {
         gather(tw, t, j * d, i * d, d, 1);
     }
@@ -46,7 +49,7 @@ pub fn fetch(
     w: usize,
     here: bool,
 )
-    requires { ⌜ Lending m r (length (now tw)) (length (now t)) × (0 < w) × (w ≤ 4) × (i + len ≤ m) × (len ≤ 16) ⌝ }
+    requires { ⌜ Lending m r (length (now tw)) (length (now t)) × (here ≡ false → w ≡ 2) × (i + len ≤ m) × (len ≤ 16) ⌝ }
     ensures { λ _. ⌜ (here ≡ false → Fetched i len r (lentAt m r w (now (tw .entry))) (now (t .exit))) ⌝ }
 {
     if here {
@@ -61,7 +64,8 @@ pub fn fetch(
 
 // Whether the twiddles of an iteration that is in no whole lanes of 4 stand side by side.
 pub fn stand(w: usize) -> bool
-    ensures { λ b. ⌜ (b ≡ true → (w ≡ 2 → ⊥) × (w ≡ 3 → ⊥)) ⌝ }
+    requires { ⌜ isWidth w ≡ true ⌝ }
+    ensures { λ b. ⌜ (b ≡ true → (w ≡ 1) ⊎ (w ≡ 4)) × (b ≡ false → w ≡ 2) ⌝ }
 {
     w == 1 || w == 4
 }

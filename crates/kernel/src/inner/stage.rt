@@ -16,6 +16,7 @@ ghost use mathlib.Core.Path.{_≡_};
 ghost use mathlib.Core.Bool.{true, false};
 ghost use Prim.Native.Nat.{ℕ, _-_, _*_, _/_, _%_, _<_, _≤_};
 ghost use lib.ListN.{length};
+ghost use Rattle.twiddle.specs.Calls.{isWidth};
 ghost use Rattle.floats.specs.declared.complex.Complex.{Complex};
 ghost use Rattle.kernel.specs.Floats.{lentAt, stageOf};
 ghost use Rattle.kernel.specs.Parts.{outputOf, Sized, Lending, Done, Blocks, Batch, Even, Placed, Workable};
@@ -27,7 +28,7 @@ fn first_stage(src: &[f32], tw: &[f32], dst: &mut [f32], m: usize, r: usize)
 {
     let mut i = 0;
     while i < m {
-        let len = least(m - i, 64);
+        let len = least(m - i, 4096);
         first(src, tw, dst, i, m, len, r);
         i += len;
     }
@@ -112,7 +113,7 @@ fn by_sixteens(
     w: usize,
     even: usize,
 )
-    requires { ⌜ Sized m r (length (now src)) × Lending m r (length (now tw)) 224 × (0 < w) × (w ≤ 4) × Blocks m s r (length (now dst)) × Batch even × Even even s × (end ≤ m) × (w ≡ 4 → m / 4 * 4 ≤ end) × Even even end × Placed even end s r (start .block) (start .col) ⌝ }
+    requires { ⌜ Sized m r (length (now src)) × Lending m r (length (now tw)) 224 × (isWidth w ≡ true) × Blocks m s r (length (now dst)) × Batch even × Even even s × (end ≤ m) × (w ≡ 4 → m / 4 * 4 ≤ end) × Even even end × Placed even end s r (start .block) (start .col) ⌝ }
     ensures { λ _. ⌜ (Done s r (outputOf false m r (now (src .entry)) (lentAt m r w (now (tw .entry)))) (now (dst .entry)) end → Done s r (outputOf false m r (now (src .entry)) (lentAt m r w (now (tw .entry)))) (now (dst .exit)) m) ⌝ }
 {
     let mut t = [0.0f32; 224];
@@ -157,7 +158,7 @@ fn by_sixteens(
 
 // A later stage of radix r at stride s, of m iterations, its twiddles packed for width w. What has no iterations makes no lanes.
 fn later_stage(src: &[f32], tw: &[f32], dst: &mut [f32], m: usize, s: usize, r: usize, w: usize)
-    requires { ⌜ Sized m r (length (now src)) × Lending m r (length (now tw)) 224 × (0 < w) × (w ≤ 4) × Blocks m s r (length (now dst)) ⌝ }
+    requires { ⌜ Sized m r (length (now src)) × Lending m r (length (now tw)) 224 × (isWidth w ≡ true) × Blocks m s r (length (now dst)) ⌝ }
     ensures { λ _. ⌜ Done s r (outputOf false m r (now (src .entry)) (lentAt m r w (now (tw .entry)))) (now (dst .exit)) m ⌝ }
 {
     let even = evenly(s);

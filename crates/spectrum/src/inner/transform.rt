@@ -1,12 +1,9 @@
 // Both directions on whatever numbers are lent, for callers that have looked at them.
-use crate::inner::stages::fetch;
 use crate::inner::stages::finish;
+use crate::inner::stages::invert;
 use crate::inner::stages::prepare;
-use crate::inner::stages::restore;
-use crate::inner::stages::stages;
 use crate::inner::stages::stages_from;
 use ends::inner::words::clear;
-use plan::Buffer;
 use plan::Record;
 ghost use mathlib.Core.Path.{_≡_};
 ghost use lib.ListN.{length};
@@ -31,24 +28,6 @@ pub fn forward(
     finish(which, scratch, output, end_twiddles, plan.half);
 }
 
-// The stages on prepared bins, and their result in Data.
-fn invert(
-    plan: Record,
-    width: usize,
-    input: &[f32],
-    output: &mut [f32],
-    scratch: &mut [f32],
-    stage_twiddles: &[f32],
-    end_twiddles: &[f32],
-)
-    requires { ⌜ Invertible plan width (length (now input)) (length (now output)) (length (now scratch)) (length (now «stage_twiddles»)) (length (now «end_twiddles»)) ⌝ }
-    ensures { λ _. ⌜ now (scratch .exit) ≡ inverseOf plan width (now («stage_twiddles» .entry)) (now («end_twiddles» .entry)) (now (input .entry)) (now (scratch .entry)) (length (now (output .entry))) .1 ⌝ }
-{
-    prepare(input, scratch, end_twiddles, plan.half);
-    let which = stages(plan, width, scratch, output, stage_twiddles);
-    restore(which, scratch, output, plan.half);
-}
-
 // From h + 1 bins to n samples, times n, and +0 beyond.
 pub fn inverse(
     plan: Record,
@@ -63,16 +42,8 @@ pub fn inverse(
     ensures { λ _. ⌜ now (output .exit) ≡ inverseOf plan width (now («stage_twiddles» .entry)) (now («end_twiddles» .entry)) (now (input .entry)) (now (scratch .entry)) (length (now (output .entry))) .0 ⌝ }
     ensures { λ _. ⌜ now (scratch .exit) ≡ inverseOf plan width (now («stage_twiddles» .entry)) (now («end_twiddles» .entry)) (now (input .entry)) (now (scratch .entry)) (length (now (output .entry))) .1 ⌝ }
 {
-    invert(
-        plan,
-        width,
-        input,
-        output,
-        scratch,
-        stage_twiddles,
-        end_twiddles,
-    );
-    fetch(Buffer::Data, scratch, output, plan.half);
+    prepare(input, scratch, end_twiddles, plan.half);
+    invert(plan, width, scratch, output, stage_twiddles);
     let words = 2 * plan.half;
     clear(&mut output[words..]);
 }

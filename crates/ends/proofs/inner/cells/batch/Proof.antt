@@ -5,8 +5,7 @@ use native.Mathlib.Omega.{arith}
 use lib.ListN.{length}
 use borrow.Author.Needs.{needs}
 use Rattle.floats.specs.Complexes.{cell}
-use Rattle.ends.specs.Ends.{stepsOf}
-use Rattle.ends.specs.Parts.{Batched}
+use Rattle.ends.specs.Parts.{stepsOf, Batched}
 use Rattle.ends.proofs.Batches.{batched-none, batched-next}
 use Rattle.ends.proofs.inner.cells.batch.Statement.{statement}
 use Rattle.ends.proofs.inner.cells.batch.Tie as tie

@@ -3,8 +3,7 @@ use mathlib.Core.Path.{ap, _∙_}
 use native.Mathlib.Omega.{arith}
 use borrow.Author.Needs.{needs}
 use Rattle.floats.specs.declared.complex.Complex.{Complex}
-use Rattle.ends.specs.Ends.{stepsOf}
-use Rattle.ends.specs.Parts.{Stepped}
+use Rattle.ends.specs.Parts.{stepsOf, Stepped}
 use Rattle.ends.proofs.Cells.{stepped-first, stepped-centre, stepped-all}
 use Rattle.ends.proofs.inner.cells.end.Statement.{statement}
 use Rattle.ends.proofs.inner.cells.end.Tie as tie

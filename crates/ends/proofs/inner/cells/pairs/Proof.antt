@@ -5,8 +5,7 @@ use Prim.Native.Nat.{_+_, _-_, _/_, _≤_, _<_}
 use native.Mathlib.Omega.{arith}
 use lib.ListN.{length}
 use borrow.Author.Needs.{needs}
-use Rattle.ends.specs.Ends.{stepsOf}
-use Rattle.ends.specs.Parts.{Stepped}
+use Rattle.ends.specs.Parts.{stepsOf, Stepped}
 use Rattle.ends.proofs.inner.cells.pairs.Statement.{statement}
 use Rattle.ends.proofs.inner.cells.pairs.Tie as tie
 

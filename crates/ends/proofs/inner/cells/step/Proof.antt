@@ -8,7 +8,7 @@ use lib.ListN.{length, take, drop}
 use lib.Seq.{length-take-le}
 use borrow.Author.Needs.{needs}
 use Rattle.floats.specs.Words.{pasted}
-use Rattle.ends.specs.Ends.{stepsOf}
+use Rattle.ends.specs.Parts.{stepsOf}
 use Rattle.floats.proofs.Flat.{cell-take}
 use Rattle.ends.proofs.Batches.{end-length, end-cell, stepped-batch}
 use Rattle.ends.proofs.inner.cells.step.Statement.{statement}

@@ -24,7 +24,7 @@ loop-holds : tie.Need-loop-holds Inv-loop μ-loop
 loop-holds c = (omega arith, refl, λ j q lj l lq. absurd (omega arith))
 
 fetch-one-requires : tie.Need-fetch-one-requires Inv-loop μ-loop
-fetch-one-requires c κs = (rw (c .before .before .loop .inv .1) (c .before .before .before .before .before .before .pre .0), omega arith, omega arith, omega arith, omega arith)
+fetch-one-requires c κs = (rw (c .before .before .loop .inv .1) (c .before .before .before .before .before .before .pre .0), c .before .before .before .before .before .before .pre .1 (c .before .before .before .if1 .left), omega arith, omega arith)
 
 loop-again : tie.Need-loop-again Inv-loop μ-loop
 loop-again c =

@@ -1,68 +1,78 @@
 -- `kernel::inner::lent::fetch_one` meets its contract. Assumes nothing.
 use mathlib.Core.Path.{sym, ap}
-use Prim.Native.Nat.{_+_, _-_}
-use native.Mathlib.Nat.{mod-lt, div-mul-le-self}
+use Prim.Native.Nat.{_+_, _-_, _*_, _%_, _≤_}
+use native.Mathlib.Nat.{mul-le-mul-right}
 use native.Mathlib.Omega.{arith}
 use borrow.Author.Needs.{needs}
 use Rattle.floats.specs.Complexes.{cell}
 use Rattle.kernel.proofs.Writes.{wrote-as}
-use Rattle.kernel.proofs.Widths.{place-lt, place-in, place-past, small-width, small-block, small-past, small-lane}
+use Rattle.kernel.proofs.Widths.{place-lt, place-in, place-past, small-past, small-lane}
 use Rattle.kernel.proofs.inner.lent.fetch_one.Statement.{statement}
 use Rattle.kernel.proofs.inner.lent.fetch_one.Tie as tie
 
-mul-if1 : tie.Need-mul-if1
-mul-if1 c = omega (arith, div-mul-le-self (c .before .before .args .m) (c .before .before .args .w), c .before .before .pre .0 .small)
+-- the twiddles of iteration j have room in t, and those of iteration i stand at a small number
+to : (s : tie.Start) → s .args .j * (s .args .r - 1) ≤ 15 * 7
+to s = small-lane (s .args .j) (s .args .r) (s .pre .3) (s .pre .0 .few)
+
+from : (s : tie.Start) → s .args .i * (s .args .r - 1) ≤ 4096 * 7
+from s = small-past (s .args .m) (s .args .r) (s .args .i) (s .pre .0 .small) (s .pre .0 .few) (s .pre .2)
+
+start : (s : tie.Start) → (s .args .i - s .args .i % 2) * (s .args .r - 1) ≤ 4096 * 7
+start s =
+    let a : s .args .i - s .args .i % 2 ≤ s .args .i = omega arith in
+    omega (arith, from s, mul-le-mul-right (s .args .r - 1) a)
 
 mul-gather : tie.Need-mul-gather
-mul-gather c = omega (arith, small-lane (c .before .before .before .before .args .j) (c .before .before .before .before .args .r) (c .before .before .before .before .pre .4) (c .before .before .before .before .pre .0 .few))
+mul-gather c = omega (arith, to (c .before .before .before .before))
 
 mul-gather-2 : tie.Need-mul-gather-2
-mul-gather-2 c = omega (arith, small-width (c .before .before .before .before .args .w) (c .before .before .before .before .args .m) (c .before .before .before .before .args .r) (c .before .before .before .before .args .i) (c .before .before .before .before .pre .2) (c .before .before .before .before .pre .0 .small) (c .before .before .before .before .pre .0 .few) (c .before .before .before .before .pre .3))
-
-mul-gather-3 : tie.Need-mul-gather-3
-mul-gather-3 c = omega (arith, small-block (c .before .before .before .before .args .w) (c .before .before .before .before .args .m) (c .before .before .before .before .args .r) (c .before .before .before .before .args .i) (c .before .before .before .before .pre .2) (c .before .before .before .before .pre .0 .small) (c .before .before .before .before .pre .0 .few) (c .before .before .before .before .pre .3))
+mul-gather-2 c = omega (arith, start (c .before .before .before .before))
 
 add-gather : tie.Need-add-gather
-add-gather c = omega (arith, small-block (c .before .before .before .before .args .w) (c .before .before .before .before .args .m) (c .before .before .before .before .args .r) (c .before .before .before .before .args .i) (c .before .before .before .before .pre .2) (c .before .before .before .before .pre .0 .small) (c .before .before .before .before .pre .0 .few) (c .before .before .before .before .pre .3), mod-lt (c .before .before .before .before .args .i) (c .before .before .before .before .pre .1), c .before .before .before .before .pre .2)
+add-gather c = omega (arith, start (c .before .before .before .before))
 
 gather-requires : tie.Need-gather-requires
 gather-requires c κs =
-    let a = c .before .before .before .before .args in
-    let k = c .before .before .before .before .pre .0 in (
-      omega (arith, small-lane (c .before .before .before .before .args .j) (c .before .before .before .before .args .r) (c .before .before .before .before .pre .4) (c .before .before .before .before .pre .0 .few), k .local, k .few),
+    let s = c .before .before .before .before in
+    let a = s .args in (
+      omega (arith, to s, s .pre .0 .local, s .pre .0 .few),
       λ u l.
-          let below = place-lt (a .m) (a .r) (a .w) (a .i) (u + 1) (c .before .before .before .before .pre .1) (c .before .before .before .before .pre .3) (omega arith) (omega arith) in
-          omega (arith, below, place-in (a .m) (a .r) (a .w) (a .i) u (c .before .if1 .taken), k .lent),
+          let below = place-lt (a .m) (a .r) (a .w) (a .i) (u + 1) (omega (arith, s .pre .1)) (s .pre .2) (omega arith) (omega arith) in
+          omega (arith, below, place-in (a .m) (a .r) (a .w) (a .i) u (s .pre .1) (c .before .if1 .taken), s .pre .0 .lent),
     )
 
-mul-gather-4 : tie.Need-mul-gather-4
-mul-gather-4 c = omega (arith, small-lane (c .before .before .before .before .args .j) (c .before .before .before .before .args .r) (c .before .before .before .before .pre .4) (c .before .before .before .before .pre .0 .few))
+mul-gather-3 : tie.Need-mul-gather-3
+mul-gather-3 c = omega (arith, to (c .before .before .before .before))
 
-mul-gather-5 : tie.Need-mul-gather-5
-mul-gather-5 c = omega (arith, small-past (c .before .before .before .before .args .w) (c .before .before .before .before .args .m) (c .before .before .before .before .args .r) (c .before .before .before .before .args .i) (c .before .before .before .before .pre .2) (c .before .before .before .before .pre .0 .small) (c .before .before .before .before .pre .0 .few) (c .before .before .before .before .pre .3))
+mul-gather-4 : tie.Need-mul-gather-4
+mul-gather-4 c = omega (arith, from (c .before .before .before .before))
 
 gather-requires-2 : tie.Need-gather-requires-2
 gather-requires-2 c κs =
-    let a = c .before .before .before .before .args in
-    let k = c .before .before .before .before .pre .0 in (
-      omega (arith, small-lane (c .before .before .before .before .args .j) (c .before .before .before .before .args .r) (c .before .before .before .before .pre .4) (c .before .before .before .before .pre .0 .few), k .local, k .few),
+    let s = c .before .before .before .before in
+    let a = s .args in (
+      omega (arith, to s, s .pre .0 .local, s .pre .0 .few),
       λ u l.
-          let below = place-lt (a .m) (a .r) (a .w) (a .i) (u + 1) (c .before .before .before .before .pre .1) (c .before .before .before .before .pre .3) (omega arith) (omega arith) in
-          omega (arith, below, place-past (a .m) (a .r) (a .w) (a .i) u (c .before .if1 .left), k .lent),
+          let below = place-lt (a .m) (a .r) (a .w) (a .i) (u + 1) (omega (arith, s .pre .1)) (s .pre .2) (omega arith) (omega arith) in
+          omega (arith, below, place-past (a .m) (a .r) (a .w) (a .i) u (s .pre .1) (c .before .if1 .left), s .pre .0 .lent),
     )
 
 returns : tie.Need-returns
 returns c =
-    let a = c .before .before .before .before .before .before .before .args in
-    wrote-as _ _ _ _ (λ u l. ap (cell (a .tw .now)) (sym (place-in (a .m) (a .r) (a .w) (a .i) u (c .before .before .before .before .if1 .taken)))) (c .before .before .gather .ensures)
+    let s = c .before .before .before .before .before .before .before in
+    let a = s .args in
+    wrote-as _ _ _ _ (λ u l. ap (cell (a .tw .now)) (sym (place-in (a .m) (a .r) (a .w) (a .i) u (s .pre .1) (c .before .before .before .before .if1 .taken))))
+    (c .before .before .gather .ensures)
 
 returns-2 : tie.Need-returns-2
 returns-2 c =
-    let a = c .before .before .before .before .before .before .before .args in
-    wrote-as _ _ _ _ (λ u l. ap (cell (a .tw .now)) (sym (place-past (a .m) (a .r) (a .w) (a .i) u (c .before .before .before .before .if1 .left)))) (c .before .before .gather2 .ensures)
+    let s = c .before .before .before .before .before .before .before in
+    let a = s .args in
+    wrote-as _ _ _ _ (λ u l. ap (cell (a .tw .now)) (sym (place-past (a .m) (a .r) (a .w) (a .i) u (s .pre .1) (c .before .before .before .before .if1 .left))))
+    (c .before .before .gather2 .ensures)
 
 pub fetch-one-spec : {M : Type 1} → statement M
 fetch-one-spec =
     tie.close
-    (tie.spec (λ c. search needs) (λ c. search needs) mul-if1 mul-gather (λ c. search needs) mul-gather-2 mul-gather-3 (λ c. search needs)
-    add-gather gather-requires mul-gather-4 mul-gather-5 gather-requires-2 (λ c. search needs) returns (λ c. search needs) returns-2)
+    (tie.spec (λ c. search needs) (λ c. search needs) (λ c. search needs) mul-gather (λ c. search needs) mul-gather-2 add-gather
+    gather-requires mul-gather-3 mul-gather-4 gather-requires-2 (λ c. search needs) returns (λ c. search needs) returns-2)

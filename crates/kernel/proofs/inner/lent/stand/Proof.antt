@@ -1,19 +1,17 @@
 -- `kernel::inner::lent::stand` meets its contract. Assumes nothing.
-use mathlib.Core.Path.{_≡_}
-use native.Mathlib.Omega.{arith}
-use borrow.Author.Needs.{needs}
-use borrow.Author.Tests.{eqb-true}
+use mathlib.Core.Path.{sym, _∙_}
+use mathlib.Core.Bool.{true≢false}
+use mathlib.Core.Logic.{inl, inr}
+use borrow.Author.Tests.{eqb-true, eq-eqb}
+use Rattle.kernel.proofs.Widths.{two-left}
 use Rattle.kernel.proofs.inner.lent.stand.Statement.{statement}
 use Rattle.kernel.proofs.inner.lent.stand.Tie as tie
 
 returns : tie.Need-returns
-returns c = search needs
+returns c = (λ e. inl (c .if1 .taken), λ e. absurd (true≢false (sym (eq-eqb _ 1 (c .if1 .taken)) ∙ e)))
 
 returns-2 : tie.Need-returns-2
-returns-2 c =
-    λ e.
-    let four : c .before .args .w ≡ 4 = eqb-true (c .before .args .w) 4 e in
-    (λ x. omega (arith, four), λ x. omega (arith, four))
+returns-2 c = (λ e. inr (eqb-true _ 4 e), two-left _ (c .before .pre) (c .if1 .left))
 
 pub stand-spec : {M : Type 1} → statement M
 stand-spec = tie.close (tie.spec returns returns-2)

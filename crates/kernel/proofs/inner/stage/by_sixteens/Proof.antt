@@ -25,7 +25,7 @@ abbrev μ-loop : tie.MeasureT-loop
 loop-holds : tie.Need-loop-holds Inv-loop μ-loop
 loop-holds c =
     let p = c .before .before .before .before .pre in
-    (p .7, refl, refl, refl, refl, refl, refl, p .9, p .10, p .8, λ done. done)
+    (p .6, refl, refl, refl, refl, refl, refl, p .8, p .9, p .7, λ done. done)
 
 slice-aggregate-fetch : tie.Need-slice-aggregate-fetch Inv-loop μ-loop
 slice-aggregate-fetch c = sym (c .before .before .before .loop .inv .2)
@@ -33,7 +33,7 @@ slice-aggregate-fetch c = sym (c .before .before .before .loop .inv .2)
 fetch-requires : tie.Need-fetch-requires Inv-loop μ-loop
 fetch-requires c κs =
     let p = c .before .before .before .before .before .before .before .before .pre in
-    (rw (c .before .before .before .loop .inv .2) (p .1), p .2, p .3, omega (arith, c .before .least .ensures .0), c .before .least .ensures .1)
+    (rw (c .before .before .before .loop .inv .2) (p .1), c .before .before .before .before .stand .ensures .1, omega (arith, c .before .least .ensures .0), c .before .least .ensures .1)
 
 sub-from : tie.Need-sub-from Inv-loop μ-loop
 sub-from c = omega (arith, c .before .before .before .before .before .before .before .before .before .before .pre .0 .some)
@@ -41,12 +41,12 @@ sub-from c = omega (arith, c .before .before .before .before .before .before .be
 mul-from : tie.Need-mul-from Inv-loop μ-loop
 mul-from c =
     let s = c .before .before .before .before .before .before .before .before .before .before in
-    omega (arith, small-past (s .args .w) (s .args .m) (s .args .r) (c .before .before .before .before .before .loop .i) (s .pre .3) (s .pre .1 .small) (s .pre .0 .few) (c .before .before .before .before .loop-test .taken))
+    omega (arith, small-past (s .args .m) (s .args .r) (c .before .before .before .before .before .loop .i) (s .pre .1 .small) (s .pre .0 .few) (c .before .before .before .before .loop-test .taken))
 
 mul-from-2 : tie.Need-mul-from-2 Inv-loop μ-loop
 mul-from-2 c =
     let s = c .before .before .before .before .before .before .before .before .before .before in
-    omega (arith, small-past (s .args .w) (s .args .m) (s .args .r) (c .before .before .before .before .before .loop .i) (s .pre .3) (s .pre .1 .small) (s .pre .0 .few) (c .before .before .before .before .loop-test .taken))
+    omega (arith, small-past (s .args .m) (s .args .r) (c .before .before .before .before .before .loop .i) (s .pre .1 .small) (s .pre .0 .few) (c .before .before .before .before .loop-test .taken))
 
 slice-aggregate-lent : tie.Need-slice-aggregate-lent Inv-loop μ-loop
 slice-aggregate-lent c = sym (c .before .before .fetch .kept .1 .0 ∙ c .before .before .before .before .before .before .loop .inv .2)
@@ -77,7 +77,7 @@ lanes-requires c κs =
     let n = c .before .before .before .before .before .before .before .before .before .least in
     let fetch = c .before .before .before .before .before .before .before .fetch in
     let fits : l .i + n .result ≤ a .m = omega (arith, n .ensures .0) in
-    let part = lent-part (c .before .before .before .before .before .before .before .before .before .before .before .before .stand .result) (l .i) (n .result) (a .m) (a .r) (a .w) (a .tw .now) _ _ (s .pre .2) (s .pre .3) (c .before .before .before .before .before .before .before .before .before .before .before .before .stand .ensures) (l .inv .9) fits (n .ensures .1) (s .pre .0 .few) (s .pre .1 .lent) (fetch .kept .1 .0 ∙ l .inv .2) (c .before .before .before .before .lent .ensures) (fetch .ensures) in
+    let part = lent-part (c .before .before .before .before .before .before .before .before .before .before .before .before .stand .result) (l .i) (n .result) (a .m) (a .r) (a .w) (a .tw .now) _ _ (c .before .before .before .before .before .before .before .before .before .before .before .before .stand .ensures .0) (l .inv .9) fits (n .ensures .1) (s .pre .0 .few) (s .pre .1 .lent) (fetch .kept .1 .0 ∙ l .inv .2) (c .before .before .before .before .lent .ensures) (fetch .ensures) in
     (s .pre .0, fits, n .ensures .1, part .1, l .inv .3, l .inv .4, l .inv .5, l .inv .6)
 
 slice-aggregate-pick : tie.Need-slice-aggregate-pick Inv-loop μ-loop
@@ -99,11 +99,11 @@ store-requires c κs =
     let l = c .before .before .before .before .before .before .before .before .before .before .before .before .before .before .before .before .before .before .before .before .before .before .before .loop in
     let n = c .before .before .before .before .before .before .before .before .before .before .before .before .before .before .before .before .before .before .before .before .before .least in
     let lanes = c .before .before .before .before .before .before .before .before .before .before .before .lanes in (
-      record { blocks = rw (l .inv .1) (s .pre .4); within = omega (arith, n .ensures .0, l .inv .0); lanes = n .ensures .1 },
+      record { blocks = rw (l .inv .1) (s .pre .3); within = omega (arith, n .ensures .0, l .inv .0); lanes = n .ensures .1 },
       record {
-        batch = s .pre .5;
-        lanes = even-batch (a .even) (l .i) (a .m) (a .s) (a .r) _ (s .pre .6) (s .pre .4) (l .inv .7) (n .ensures .3) (n .ensures .4);
-        stride = s .pre .6;
+        batch = s .pre .4;
+        lanes = even-batch (a .even) (l .i) (a .m) (a .s) (a .r) _ (s .pre .5) (s .pre .3) (l .inv .7) (n .ensures .3) (n .ensures .4);
+        stride = s .pre .5;
       },
       l .inv .8,
       picked-size (a .r) 128 _ _ _ (c .before .before .before .before .pick .ensures) (lanes .kept .1 .1 .0 ∙ l .inv .3) (lanes .kept .1 .1 .1 .1 .0 ∙ l .inv .5),
@@ -131,7 +131,7 @@ loop-again c =
     let store = c .before .before .store in
     let fits : l .i + n .result ≤ a .m = omega (arith, n .ensures .0, l .inv .0) in
     let v = outputOf false (a .m) (a .r) (a .src .now) (lentAt (a .m) (a .r) (a .w) (a .tw .now)) in
-    let part = lent-part (c .before .before .before .before .before .before .before .before .before .before .before .before .before .before .before .before .before .before .before .before .before .before .before .before .before .before .before .stand .result) (l .i) (n .result) (a .m) (a .r) (a .w) (a .tw .now) _ _ (s .pre .2) (s .pre .3) (c .before .before .before .before .before .before .before .before .before .before .before .before .before .before .before .before .before .before .before .before .before .before .before .before .before .before .before .stand .ensures) (l .inv .9) fits (n .ensures .1) (s .pre .0 .few) (s .pre .1 .lent) (fetch .kept .1 .0 ∙ l .inv .2) (c .before .before .before .before .before .before .before .before .before .before .before .before .before .before .before .before .before .before .before .lent .ensures) (fetch .ensures) in
+    let part = lent-part (c .before .before .before .before .before .before .before .before .before .before .before .before .before .before .before .before .before .before .before .before .before .before .before .before .before .before .before .stand .result) (l .i) (n .result) (a .m) (a .r) (a .w) (a .tw .now) _ _ (c .before .before .before .before .before .before .before .before .before .before .before .before .before .before .before .before .before .before .before .before .before .before .before .before .before .before .before .stand .ensures .0) (l .inv .9) fits (n .ensures .1) (s .pre .0 .few) (s .pre .1 .lent) (fetch .kept .1 .0 ∙ l .inv .2) (c .before .before .before .before .before .before .before .before .before .before .before .before .before .before .before .before .before .before .before .lent .ensures) (fetch .ensures) in
     let held = lanes .ensures (lentAt (a .m) (a .r) (a .w) (a .tw .now)) (part .0) in (
       fits,
       store .kept .1 .1 .0 ∙ l .inv .1,
@@ -140,7 +140,7 @@ loop-again c =
       lanes .kept .1 .1 .1 .0 ∙ l .inv .4,
       lanes .kept .1 .1 .1 .1 .0 ∙ l .inv .5,
       lanes .kept .1 .1 .1 .1 .1 .0 ∙ l .inv .6,
-      even-add (a .even) (l .i) (n .result) (l .inv .7) (even-batch (a .even) (l .i) (a .m) (a .s) (a .r) _ (s .pre .6) (s .pre .4) (l .inv .7) (n .ensures .3) (n .ensures .4)),
+      even-add (a .even) (l .i) (n .result) (l .inv .7) (even-batch (a .even) (l .i) (a .m) (a .s) (a .r) _ (s .pre .5) (s .pre .3) (l .inv .7) (n .ensures .3) (n .ensures .4)),
       store .ensures .0,
       λ x. omega (arith, l .inv .9 x),
       λ done. store .ensures .1 v (picked (l .i) (n .result) (a .r) v (lanes .last .1 .1 .0) (lanes .last .1 .1 .1 .0) (lanes .last .1 .1 .1 .1 .0) (lanes .last .1 .1 .1 .1 .1 .0) _ _ (c .before .before .before .before .before .before .before .pick .ensures) (c .before .before .before .before .pick2 .ensures) held) (l .inv .10 done),

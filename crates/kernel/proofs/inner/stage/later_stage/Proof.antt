@@ -17,7 +17,7 @@ by-fours-requires c κs =
     let e = c .before .before .before .evenly .ensures in
     let n = c .before .before .in-fours .ensures in
     let f = whole-fours (s .args .w) (s .args .m) (n .1) (n .2) in
-    (s .pre .0, s .pre .1 .lent, s .pre .4, e .0, e .1, f .0, f .1)
+    (s .pre .0, s .pre .1 .lent, s .pre .3, e .0, e .1, f .0, f .1)
 
 -- what is there once the whole lanes of 4 are done
 in-lanes : (c : tie.Joined1) → (length (c .if1 .dst) ≡ length (c .before .before .before .before .before .before .args .dst .now))
@@ -37,7 +37,7 @@ in-lanes c =
     (λ w.
     let none : n .result ≡ 0 = omega (arith, w .0 .left) in (
       ap length (w .1),
-      rw (w .2, none) (placed-first (e .result) (a .s) (a .r) (a .s) (e .ensures .1) (s .pre .4 .stride)),
+      rw (w .2, none) (placed-first (e .result) (a .s) (a .r) (a .s) (e .ensures .1) (s .pre .3 .stride)),
       λ i p li lp. absurd (omega (arith, none)),
     ))
     (c .if1 .came)
@@ -50,7 +50,7 @@ by-sixteens-requires c κs =
     let n = c .before .before .before .in-fours in
     let f = whole-fours (a .w) (a .m) (n .ensures .1) (n .ensures .2) in
     let j = in-lanes (c .before .before) in
-    (s .pre .0, s .pre .1, s .pre .2, s .pre .3, rw (j .0) (s .pre .4), e .ensures .0, e .ensures .1, n .ensures .0, λ x. omega (arith, n .ensures .1 x), even-fours (e .result) (a .s) (n .result) (e .ensures .1) (f .1), j .1)
+    (s .pre .0, s .pre .1, s .pre .2, rw (j .0) (s .pre .3), e .ensures .0, e .ensures .1, n .ensures .0, λ x. omega (arith, n .ensures .1 x), even-fours (e .result) (a .s) (n .result) (e .ensures .1) (f .1), j .1)
 
 same-length : tie.Need-same-length
 same-length c = c .before .before .by-sixteens .kept .1 .1 .0 ∙ in-lanes (c .before .before .before .before .before) .0

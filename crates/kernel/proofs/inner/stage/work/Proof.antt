@@ -29,7 +29,6 @@ later-stage-requires c κs =
       work-sized (a .args .t1) (a .args .j) (a .args .w) _ _ _ (a .pre),
       work-lending (a .args .t1) (a .args .j) (a .args .w) _ _ _ (a .pre) (c .before .before .if1 .left),
       a .pre .width,
-      a .pre .narrow,
       rw (c .stride .ensures) (work-blocks (a .args .t1) (a .args .j) (a .args .w) _ _ _ (a .pre)),
     )
 

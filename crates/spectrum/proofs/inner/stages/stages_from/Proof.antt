@@ -19,7 +19,6 @@ all-from-requires c κs =
       record {
         planned = s .pre .0 .planned;
         width = s .pre .0 .width;
-        narrow = s .pre .0 .narrow;
         long = s .pre .1;
         wide = length-take-le _ _ (s .pre .0 .other);
         lent = s .pre .0 .lent;

@@ -9,7 +9,7 @@ use Rattle.spectrum.proofs.inner.transform.forward.Tie as tie
 stages-from-requires : tie.Need-stages-from-requires
 stages-from-requires c κs =
     let s = c .before .before .before .before .before .before .before in
-    (record { planned = s .pre .planned; width = s .pre .width; narrow = s .pre .narrow; room = s .pre .room; other = omega (arith, s .pre .bins); lent = s .pre .stages }, s .pre .samples ∙ plan-twice (s .args .plan) (s .pre .planned))
+    (record { planned = s .pre .planned; width = s .pre .width; room = s .pre .room; other = omega (arith, s .pre .bins); lent = s .pre .stages }, s .pre .samples ∙ plan-twice (s .args .plan) (s .pre .planned))
 
 finish-requires : tie.Need-finish-requires
 finish-requires c κs =
