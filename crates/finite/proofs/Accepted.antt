@@ -2,7 +2,7 @@
 use Prim.Native.Nat.{ℕ, _+_, _-_, _*_, _^_, _≤_}
 use native.Mathlib.Nat.{le-trans, le-of-eq, mul-le-mul-right}
 use native.Mathlib.Omega.{arith}
-use mathlib.Core.Path.{_≡_, refl, sym, subst, _∙_}
+use mathlib.Core.Path.{_≡_, sym, subst}
 use mathlib.Core.Bool.{Bool, true}
 use mathlib.Core.List.{List}
 use lib.Dec.{lit≤}
@@ -12,11 +12,12 @@ use lib.ListN.{length, getD}
 use lib.Pow.{pow-pos}
 use borrow.Author.Tests.{le-leb}
 use Rattle.refusal.specs.declared.Verdict.the-variants.{Accepted}
+use Rattle.refusal.proofs.Rows.{deciding}
 use Rattle.plan.specs.declared.Record.{Record}
 use Rattle.floats.specs.Scan.{fits, firstUnfit}
 use Rattle.floats.proofs.Scan.{none-fails}
 use Rattle.spectrum.specs.Calls.{lentVerdict}
-use Rattle.spectrum.proofs.Verdicts.{all-sized, all-fit, numbers-decide}
+use Rattle.spectrum.proofs.Verdicts.{all-fit}
 use Rattle.finite.specs.Sizes.{AtMost, Words, RightlyLent}
 use Rattle.finite.specs.Whole.{IsWhole}
 use Rattle.finite.proofs.Sizes.{most-shifted}
@@ -34,11 +35,11 @@ words-fit k xs w = none-fails (fits k) xs (λ i l. most-fits k (getD xs i nan) (
 -- rightly lent, a call with numbers within its bound is accepted
 pub lent-accepted : (p : Record) (W : ℕ) (stage end : List Float) (input output : Bool) (scratch k : ℕ) (xs : List Float) → RightlyLent p W stage end input output scratch → Words k xs
     → lentVerdict p W input output scratch k xs stage end ≡ Accepted
+unfolding lentVerdict
 lent-accepted p W stage end input output scratch k xs l w =
-    let sized = all-sized p W input output scratch (length stage) (length end) (l .planned) (l .width) (l .long) (l .wide) (l .room) (l .stages) (l .ends) in
-    sym
-    (all-fit k xs stage end _ refl (words-fit k xs w) _ refl (words-fit 0 stage (l .ones .0)) _ refl (words-fit 0 end (l .ones .1))
-    ∙ numbers-decide p W input output scratch k xs stage end Accepted sized refl)
+    let numbers = words-fit k xs w in
+    let twiddles = all-fit stage end (words-fit 0 stage (l .ones .0)) (words-fit 0 end (l .ones .1)) in
+    sym (search deciding depth 14)
 
 pub words-wider : (a b : ℕ) (xs : List Float) → a ≤ b → Words a xs → Words b xs
 words-wider a b xs l w i li =

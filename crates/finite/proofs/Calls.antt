@@ -1,18 +1,15 @@
 -- What an accepted call of `stage`, `forward` or `inverse` writes, and what `power` answers, has a size: the bound on the numbers lent is a parameter.
 -- A stage adds five binary digits at most, the steps at the ends three; where a plan has no stage forward does not write the Scratchpad. Assumes nothing.
 use mathlib.Core.Path.{_≡_, refl, sym, ap, _∙_, subst}
-use mathlib.Core.Bool.{not, _||_}
 use mathlib.Core.List.{List, _++_}
-use Prim.Native.Nat.{ℕ, zero, suc, _+_, _-_, _*_, _/_, _%_, _≤_, _<_}
+use Prim.Native.Nat.{ℕ, zero, suc, _+_, _-_, _*_, _/_, _≤_, _<_}
 use native.Mathlib.Omega.{arith}
-use lib.Dec.{eqb, ltb, lit≤}
+use lib.Dec.{lit≤}
 use lib.Ieee.{Float, binary32, add}
 use lib.ListN.{length}
-use borrow.Author.Tests.{ltb-false}
-use Rattle.refusal.specs.declared.Refusal.the-variants.{Length, Number, Bins}
 use Rattle.refusal.specs.declared.Verdict.{Verdict}
 use Rattle.refusal.specs.declared.Verdict.the-variants.{Accepted, Refused}
-use Rattle.refusal.proofs.Rows.{accepted-by, settled}
+use Rattle.refusal.proofs.Rows.{accepted, settled}
 use Rattle.plan.specs.Counts.{radix}
 use Rattle.plan.specs.declared.Record.{Record}
 use Rattle.schedule.specs.Plans.{inUse}
@@ -102,10 +99,9 @@ module _ (xs : List Float) (lo hi : ℕ) (r : Summed) (s : Powers xs lo hi r) (e
   pub summed-within : Words 48 xs
   unfolding powerVerdict
   summed-within =
-      let a = accepted-by (not (eqb (length xs % 2) 0) || ltb (length xs) 4 || ltb 8194 (length xs)) (Length 0) _ (summing .0) in
-      let b = accepted-by (ltb hi lo || not (ltb hi (length xs / 2))) Bins _ (a .1) in
-      let c = accepted-by (ltb (firstUnfit 48 xs) (length xs)) (Number (firstUnfit 48 xs)) _ (b .1) in
-      scan-words 48 xs (ltb-false (firstUnfit 48 xs) (length xs) (c .0))
+      let t = summing .0 in
+      let few : length xs ≤ firstUnfit 48 xs = search accepted depth 8 in
+      scan-words 48 xs few
 
   pub power-within : (k : ℕ) → k ≤ 56 → Words k xs → AtMost 8194 (k + k) (r .power)
   power-within k few w =

@@ -3,7 +3,6 @@ pub mod Lists
 pub mod Merging
 pub mod Products
 pub mod Half
-pub mod Tests
 pub mod Records
 pub mod Counts
 pub mod Planning

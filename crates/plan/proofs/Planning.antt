@@ -7,6 +7,7 @@ use mathlib.Core.List.{List}
 use lib.ListN.{length, take}
 use Rattle.refusal.specs.declared.Refusal.{Refusal}
 use Rattle.refusal.specs.declared.Refusal.the-variants.{NotPlanned}
+use Rattle.refusal.specs.declared.Verdict.{Verdict}
 use Rattle.refusal.specs.declared.Verdict.the-variants.{Accepted, Refused}
 use Rattle.plan.specs.declared.Record.{Record}
 use Rattle.plan.specs.declared.Radices.{Radices}
@@ -16,7 +17,7 @@ use Rattle.plan.specs.declared.inner.merging.Merged.{Merged}
 use Rattle.plan.specs.Lists.{product, padded, listed}
 use Rattle.plan.specs.Half.{half}
 use Rattle.plan.specs.Merging.{tally, total, sorted, mergeAll}
-use Rattle.plan.specs.Record.{planVerdict, factors, recordOf, refusedPlan, acceptedPlan, planned, isPlanned}
+use Rattle.plan.specs.Record.{planVerdict, factors, recordOf, refusedPlan, acceptedPlan, plannedBy, planned, isPlanned}
 use Rattle.plan.specs.Counts.{recordVerdict}
 use Rattle.plan.proofs.Lists.{length-padded}
 use Rattle.plan.proofs.Merging.{merged-leaves}
@@ -25,13 +26,13 @@ use Rattle.plan.proofs.Records.{Good, good-few, good-halved, take-padde
 
 -- ---- the answer
 
-pub answer-refused : (xs : List ℕ) (why : Refusal) (r : Planned) → r ≡ refusedPlan why → planVerdict xs ≡ Refused why → r ≡ planned xs
+pub answer-refused : (xs : List ℕ) (why : Refusal) (r : Planned) → r ≡ refusedPlan why → Refused why ≡ planVerdict xs → r ≡ planned xs
 unfolding planned
-answer-refused xs why r p e = p ∙ rw e
+answer-refused xs why r p e = p ∙ ap (λ (v : Verdict). plannedBy v xs) e
 
-pub answer-accepted : (xs : List ℕ) (r : Planned) → r ≡ acceptedPlan xs → planVerdict xs ≡ Accepted → r ≡ planned xs
+pub answer-accepted : (xs : List ℕ) (r : Planned) → r ≡ acceptedPlan xs → Accepted ≡ planVerdict xs → r ≡ planned xs
 unfolding planned
-answer-accepted xs r p e = p ∙ rw e
+answer-accepted xs r p e = p ∙ ap (λ (v : Verdict). plannedBy v xs) e
 
 -- the half list as the array holds it
 module _ (xs : List ℕ) (g : Good xs) (h : Radices) (e : h ≡ listed (half xs)) where

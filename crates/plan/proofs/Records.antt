@@ -11,8 +11,8 @@ use mathlib.Core.List.{List, [], _∷_}
 use lib.Dec.{eqb, ltb}
 use lib.ListN.{length, getD, take, drop, drop-of-length-le, replicate, length-take}
 use lib.Seq.{take-at, drop-cons}
-use borrow.Author.Tests.{eqb-true, eqb-false, eq-eqb, ne-eqb, ltb-false, lt-ltb, le-leb, lt-leb, leb-true}
-use Rattle.refusal.proofs.Rows.{accepted-by}
+use borrow.Author.Tests.{eqb-true, eq-eqb, ne-eqb, lt-ltb, le-leb, lt-leb, leb-true}
+use Rattle.refusal.proofs.Rows.{deciding, accepted}
 use Rattle.refusal.specs.declared.Verdict.the-variants.{Accepted}
 use Rattle.plan.specs.Lists.{product, isRadix, firstThat, indexOf, firstBad, firstOver, largest, padded, eqList, runningProduct}
 use Rattle.plan.specs.Half.{half, halving, halved}
@@ -21,7 +21,6 @@ use Rattle.plan.specs.Record.{planVerdict, factors, recordOf, Plannable,
 use Rattle.plan.specs.declared.Record.{Record}
 use Rattle.plan.specs.declared.inner.lists.Running.{Running}
 use Rattle.plan.specs.declared.inner.merging.Tally.{Tally}
-use Rattle.plan.proofs.Tests.{plan-accepted}
 use Rattle.plan.proofs.Lists.{running-all, running-place, length-padded}
 use Rattle.plan.proofs.Merging.{and-false, low, Keeps, length-sorted, merged-leaves, closed, none-at, merged-stop}
 use Rattle.plan.proofs.Products.{Radical, radical, radical-none-bad, radical-sorted, over-none-small, small-over-none, entries-few, weight, product-sorted, product-tally, tally-sorted, total-few, weight-tells}
@@ -64,15 +63,14 @@ pub record Good (xs : List ℕ) : Type 0 where
 pub accepted-good : (xs : List ℕ) → planVerdict xs ≡ Accepted → Good xs
 unfolding planVerdict
 accepted-good xs e =
-    let a = accepted-by _ _ _ e in
-    let b = accepted-by _ _ _ (a .1) in
-    let c = accepted-by _ _ _ (b .1) in
-    let d = accepted-by _ _ _ (c .1) in
-    let odd : product xs % 2 ≡ 1 → ⊥ = eqb-false _ _ (d .0) in
+    let none : length xs ≡ 0 → ⊥ = search accepted in
+    let bad : length xs ≤ firstBad xs = search accepted in
+    let over : length xs ≤ firstOver 1 xs = search accepted in
+    let odd : product xs % 2 ≡ 1 → ⊥ = search accepted depth 8 in
     record {
-      some = positive (length xs) (eqb-false _ _ (a .0));
-      radices = radical xs (bad-none xs (ltb-false _ _ (b .0)));
-      small = rw one-mul at (over-none-small 1 xs (omega arith) (over-none-at xs (ltb-false _ _ (c .0))));
+      some = positive (length xs) none;
+      radices = radical xs (bad-none xs bad);
+      small = rw one-mul at (over-none-small 1 xs (omega arith) (over-none-at xs over));
       even = even-or-odd (product xs) odd;
     }
   where
@@ -83,11 +81,13 @@ accepted-good xs e =
     even-or-odd n h = omega arith
 
 pub good-accepted : (xs : List ℕ) → Good xs → planVerdict xs ≡ Accepted
+unfolding planVerdict
 good-accepted xs g =
-    let bad = radical-none-bad xs (g .radices) in
-    let over = small-over-none 1 xs (g .radices) (rw one-mul (g .small)) in
-    plan-accepted xs (λ (e : length xs ≡ 0). omega (arith, g .some)) (omega (arith, bad)) (omega (arith, over))
-    (λ (e : product xs % 2 ≡ 1). omega (arith, g .even))
+    let some : length xs ≡ 0 → ⊥ = λ e. omega (arith, g .some) in
+    let bad : length xs ≤ firstBad xs = omega (arith, radical-none-bad xs (g .radices)) in
+    let over : length xs ≤ firstOver 1 xs = omega (arith, small-over-none 1 xs (g .radices) (rw one-mul (g .small))) in
+    let even : product xs % 2 ≡ 1 → ⊥ = λ e. omega (arith, g .even) in
+    sym (search deciding depth 8)
 
 pub good-few : (xs : List ℕ) → Good xs → length xs ≤ 13
 good-few xs g = entries-few xs (g .radices) (g .small)

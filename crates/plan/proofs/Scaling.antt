@@ -11,13 +11,13 @@ use mathlib.Core.List.{List, [], _∷_, _++_, append-nil, append-assoc}
 use lib.Dec.{eqb, ltb}
 use lib.Pow.{pow-add, pow-lt, pow-mono}
 use lib.ListN.{length, set, replicate, length-append, length-replicate}
-use borrow.Author.Tests.{eq-eqb, ne-eqb, le-leb, lt-leb, lt-ltb, le-ltb, ltb-false}
+use borrow.Author.Tests.{eq-eqb, ne-eqb, le-leb, lt-leb, lt-ltb, le-ltb}
 use Rattle.refusal.specs.Refusal.{Row, _⇒_, verdict}
 use Rattle.refusal.specs.declared.Refusal.{Refusal}
-use Rattle.refusal.specs.declared.Refusal.the-variants.{NoRadix, TooLarge}
+use Rattle.refusal.specs.declared.Refusal.the-variants.{TooLarge}
 use Rattle.refusal.specs.declared.Verdict.{Verdict}
 use Rattle.refusal.specs.declared.Verdict.the-variants.{Accepted, Refused}
-use Rattle.refusal.proofs.Rows.{accepted-by, refused-on, accepted-on}
+use Rattle.refusal.proofs.Rows.{accepted, refused-on, accepted-on}
 use Rattle.plan.specs.declared.Radices.{Radices}
 use Rattle.plan.specs.declared.Scaled.{Scaled}
 use Rattle.plan.specs.declared.inner.lists.Running.{Running}
@@ -203,18 +203,9 @@ power-small i h = pow-mono {j = 13} h
 pub power-next : (i : ℕ) → 2 ^ i * 2 ≡ 2 ^ (i + 1)
 power-next i = sym (pow-suc 2 i) ∙ ap (λ (n : ℕ). 2 ^ n) (sym (add-one i))
 
--- ---- the verdict, test by test
+-- ---- an accepted list
 
 module _ (from : ℕ) (xs : List ℕ) where
-  pub check-bad : firstBad xs < length xs → Refused (NoRadix (from + firstBad xs)) ≡ verdict (listRows from xs)
-  check-bad h = simp (lt-ltb (firstBad xs) (length xs) h)
-
-  pub check-over : length xs ≤ firstBad xs → firstOver 1 xs < length xs → Refused (TooLarge (from + firstOver 1 xs)) ≡ verdict (listRows from xs)
-  check-over b h = simp (le-ltb (firstBad xs) (length xs) b, lt-ltb (firstOver 1 xs) (length xs) h)
-
-  pub check-through : length xs ≤ firstBad xs → length xs ≤ firstOver 1 xs → Accepted ≡ verdict (listRows from xs)
-  check-through b h = simp (le-ltb (firstBad xs) (length xs) b, le-ltb (firstOver 1 xs) (length xs) h)
-
   -- what an accepted list is
   pub record Base : Type 0 where
     pub radices : Radical xs
@@ -223,13 +214,12 @@ module _ (from : ℕ) (xs : List ℕ) where
 
   pub check-base : verdict (listRows from xs) ≡ Accepted → Base
   check-base e =
-      let a = accepted-by _ _ _ e in
-      let b = accepted-by _ _ _ (a .1) in
-      let over = over-none-at xs (ltb-false _ _ (b .0)) in
+      let bad : length xs ≤ firstBad xs = search accepted in
+      let over : length xs ≤ firstOver 1 xs = search accepted in
       record {
-        radices = radical xs (bad-none xs (ltb-false _ _ (a .0)));
-        whole = over;
-        small = rw one-mul at (over-none-small 1 xs (omega arith) over);
+        radices = radical xs (bad-none xs bad);
+        whole = over-none-at xs over;
+        small = rw one-mul at (over-none-small 1 xs (omega arith) (over-none-at xs over));
       }
 
 -- ---- the answer

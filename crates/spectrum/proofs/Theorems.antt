@@ -2,7 +2,7 @@
 -- accepted at any other, and leaves the same output and the same scratch; and a refused call writes nothing. That two outcomes of a call are
 -- equal is in proofs/Unique.antt. Assumes nothing.
 use Prim.Native.Nat.{ℕ, _-_, _*_, _<_}
-use mathlib.Core.Path.{_≡_, refl, sym, ap, _∙_}
+use mathlib.Core.Path.{_≡_, sym, ap, _∙_}
 use mathlib.Core.Bool.{Bool, true}
 use mathlib.Core.List.{List, _++_}
 use lib.Ieee.{Float}
@@ -11,7 +11,7 @@ use Rattle.refusal.specs.Refusal.{left}
 use Rattle.refusal.specs.declared.Refusal.{Refusal}
 use Rattle.refusal.specs.declared.Verdict.{Verdict}
 use Rattle.refusal.specs.declared.Verdict.the-variants.{Accepted, Refused}
-use Rattle.refusal.proofs.Rows.{settled}
+use Rattle.refusal.proofs.Rows.{deciding, settled}
 use Rattle.plan.specs.Counts.{resultIn}
 use Rattle.plan.specs.Record.{isPlanned}
 use Rattle.plan.specs.declared.Record.{Record}
@@ -28,7 +28,7 @@ use Rattle.stage.proofs.Same.{plan-agree, stage-lent}
 use Rattle.ends.specs.Ends.{postprocess-fft, zeros}
 use Rattle.spectrum.specs.Calls.{lentVerdict, Forwards, Inverts}
 use Rattle.spectrum.specs.Transforms.{Slices, withBoth, forwardRun, forwardOf, inverseRun, restored, inverseOf}
-use Rattle.spectrum.proofs.Verdicts.{lent-taken, all-sized, all-fit, numbers-decide}
+use Rattle.spectrum.proofs.Verdicts.{lent-taken, all-fit}
 
 -- ---- widths
 
@@ -54,14 +54,14 @@ module _ (p : Record) (planned : isPlanned p ≡ true) (W W′ : ℕ) (some : 0 
 -- the verdict at W′ accepts where that at W does
 accepted-any-width : (p : Record) (W W′ : ℕ) (input output : Bool) (scratch k : ℕ) (xs stage stage′ end : List Float) → lentVerdict p W input output scratch k xs stage end ≡ Accepted
     → isWidth W′ ≡ true → length stage′ ≡ length stage → Alike p W W′ stage stage′ → lentVerdict p W′ input output scratch k xs stage′ end ≡ Accepted
-unfolding firstUnfit
+unfolding firstUnfit lentVerdict
 accepted-any-width p W W′ input output scratch k xs stage stage′ end accepted wide same alike =
     let t = lent-taken p W input output scratch k xs stage end accepted in
     let lent = same ∙ t .stages in
     let fit = joined-none (fits 0) stage end (t .twiddles) in
     let fit′ = all-fit-alike p (t .planned) W W′ (width-bounds W (t .width) .0) (width-bounds W′ wide .0) stage stage′ (t .stages) lent alike (fit .0) in
-    let sized = all-sized p W′ input output scratch (length stage′) (length end) (t .planned) wide (t .long) (t .wide) (t .room) lent (t .ends) in
-    sym (all-fit k xs stage′ end _ refl (t .numbers) _ refl fit′ _ refl (fit .1) ∙ numbers-decide p W′ input output scratch k xs stage′ end Accepted sized refl)
+    let both = all-fit stage′ end fit′ (fit .1) in
+    sym (search deciding depth 14)
 
 -- ---- calls
 

@@ -9,6 +9,7 @@ use mathlib.Core.Bool.{true}
 use mathlib.Core.List.{List}
 use lib.Ieee.{Float}
 use lib.ListN.{length}
+use Rattle.refusal.proofs.Rows.{deciding}
 use Rattle.refusal.specs.declared.Verdict.the-variants.{Accepted}
 use Rattle.plan.specs.Counts.{radix, twiddleCount, twiddleStart, stageTwiddles}
 use Rattle.plan.specs.Record.{isPlanned}
@@ -28,7 +29,7 @@ use Rattle.stage.specs.Calls.{stageVerdict}
 use Rattle.stage.specs.Runs.{lentTo, Agree, AgreeAll}
 use Rattle.stage.proofs.Runs.{own-within}
 use Rattle.stage.proofs.Same.{own-count}
-use Rattle.stage.proofs.Verdicts.{stage-taken, all-sized, all-fit, numbers-decide}
+use Rattle.stage.proofs.Verdicts.{stage-taken}
 
 module _ (P : Complex → Type 0) (W W′ : ℕ) (width : 0 < W) (width′ : 0 < W′) where
   -- what holds of all twiddles of M iterations of radix r at one width holds of all at the other
@@ -79,12 +80,12 @@ all-fit-alike p planned W W′ width width′ tw tw′ lent lent′ alike fit =
 pub accepted-any-width : (p : Record) (j W W′ : ℕ) (xs : List Float) (output : ℕ) (tw tw′ : List Float) → stageVerdict p j W xs output tw ≡ Accepted → isWidth W′ ≡ true → length tw′ ≡ length tw
     → Agree (p .half / radix (inUse p) j) (radix (inUse p) j) (lentAt (p .half / radix (inUse p) j) (radix (inUse p) j) W tw) (lentAt (p .half / radix (inUse p) j) (radix (inUse p) j) W′ tw′)
     → stageVerdict p j W′ xs output tw′ ≡ Accepted
-unfolding firstUnfit
+unfolding firstUnfit stageVerdict
 accepted-any-width p j W W′ xs output tw tw′ accepted wide same agree =
     let t = stage-taken p j W xs output tw accepted in
     let w = t .workable in
     let lent = same ∙ w .lent in
     let cells : (n : ℕ) → n < twiddleCount (p .half) (p .radices) j → BothPass (fits 0) (cell tw′ n)
     = own-alike (BothPass (fits 0)) W W′ (width-bounds W (w .width) .0) (width-bounds W′ wide .0) p (w .planned) j (w .known) (cell tw) (cell tw′) (λ later. agree) (λ n l. cell-passes (fits 0) tw (t .twiddles) n (omega (arith, w .lent))) in
-    let sized = all-sized p j W′ (length xs) output (length tw′) (w .planned) (w .known) wide (w .source) (w .target) lent in
-    sym (all-fit xs tw′ _ refl (t .numbers) _ refl (no-cell-fails (fits 0) tw′ (twiddleCount (p .half) (p .radices) j) lent cells) ∙ numbers-decide p j W′ xs output tw′ Accepted sized refl)
+    let fit = no-cell-fails (fits 0) tw′ (twiddleCount (p .half) (p .radices) j) lent cells in
+    sym (search deciding depth 12)

@@ -1,18 +1,17 @@
--- Laws of the verdict on a filling: which row decides, what an accepted call tells, and what each leaves. Assumes nothing.
+-- Laws of the verdict on a filling: the widths, what an accepted call tells, and what each call leaves. Assumes nothing.
 use Prim.Native.Nat.{ℕ, _*_, _<_, _≤_}
 use native.Mathlib.Omega.{arith}
 use mathlib.Core.Path.{_≡_, refl, sym, ap, _∙_}
-use mathlib.Core.Bool.{Bool, true, false, not, _||_}
+use mathlib.Core.Bool.{Bool, true, false, _||_}
 use mathlib.Core.List.{List}
 use lib.Dec.{eqb}
 use lib.Ieee.{Float}
 use lib.ListN.{length}
-use borrow.Author.Tests.{eqb-true, eq-eqb, ne-eqb, not-false}
+use borrow.Author.Tests.{eqb-true, ne-eqb}
 use Rattle.refusal.specs.declared.Refusal.{Refusal}
-use Rattle.refusal.specs.declared.Refusal.the-variants.{NotPlanned, Width, NotHoused, Length}
 use Rattle.refusal.specs.declared.Verdict.{Verdict}
 use Rattle.refusal.specs.declared.Verdict.the-variants.{Accepted, Refused}
-use Rattle.refusal.proofs.Rows.{accepted-by, settles-refused, settles-accepted}
+use Rattle.refusal.proofs.Rows.{accepted, settles-refused, settles-accepted}
 use Rattle.plan.specs.Counts.{stageTwiddles, endCount}
 use Rattle.plan.specs.Record.{isPlanned}
 use Rattle.plan.specs.declared.Record.{Record}
@@ -42,37 +41,6 @@ width-bounds W e = one (eqb W 1) (eqb W 2) (eqb W 4) refl refl refl e
     one false false true f g h t = let w = eqb-true W 4 h in (omega arith, omega arith)
     one false false false f g h t = absurd (let z : _≡_ {A = ℕ} 0 1 = cc in omega arith)
 
--- ---- which row decides
-
-module _ (p : Record) (W stage end : ℕ) where
-  pub unplanned : isPlanned p ≡ false → Refused (NotPlanned 0) ≡ fillVerdict p W stage end
-  unfolding fillVerdict
-  unplanned a = simp (a)
-
-  module _ (a : isPlanned p ≡ true) where
-    pub unpacked : isWidth W ≡ false → Refused Width ≡ fillVerdict p W stage end
-    unfolding fillVerdict
-    unpacked b = simp (a, b)
-
-    module _ (b : isWidth W ≡ true) where
-      pub unhoused : housed (p .n) ≡ false → Refused NotHoused ≡ fillVerdict p W stage end
-      unfolding fillVerdict
-      unhoused d = simp (a, b, d)
-
-      module _ (d : housed (p .n) ≡ true) where
-        pub no-stage : (stage ≡ 2 * stageTwiddles p → ⊥) → Refused (Length 3) ≡ fillVerdict p W stage end
-        unfolding fillVerdict
-        no-stage e = simp (a, b, d, ne-eqb stage (2 * stageTwiddles p) e)
-
-        module _ (e : stage ≡ 2 * stageTwiddles p) where
-          pub no-end : (end ≡ 2 * endCount (p .n) → ⊥) → Refused (Length 4) ≡ fillVerdict p W stage end
-          unfolding fillVerdict
-          no-end f = simp (a, b, d, eq-eqb stage (2 * stageTwiddles p) e, ne-eqb end (2 * endCount (p .n)) f)
-
-          pub all-taken : end ≡ 2 * endCount (p .n) → Accepted ≡ fillVerdict p W stage end
-          unfolding fillVerdict
-          all-taken f = simp (a, b, d, eq-eqb stage (2 * stageTwiddles p) e, eq-eqb end (2 * endCount (p .n)) f)
-
 -- ---- what an accepted call tells
 
 pub record Taken (p : Record) (W stage end : ℕ) : Type 0 where
@@ -84,19 +52,7 @@ pub record Taken (p : Record) (W stage end : ℕ) : Type 0 where
 
 pub taken : (p : Record) (W stage end : ℕ) (v : Verdict) → v ≡ fillVerdict p W stage end → v ≡ Accepted → Taken p W stage end
 unfolding fillVerdict
-taken p W stage end v e g =
-    let a = accepted-by (not (isPlanned p)) (NotPlanned 0) _ (sym e ∙ g) in
-    let b = accepted-by (not (isWidth W)) Width _ (a .1) in
-    let c = accepted-by (not (housed (p .n))) NotHoused _ (b .1) in
-    let d = accepted-by (not (eqb stage (2 * stageTwiddles p))) (Length 3) _ (c .1) in
-    let f = accepted-by (not (eqb end (2 * endCount (p .n)))) (Length 4) Accepted (d .1) in
-    record {
-      planned = not-false _ (a .0);
-      width = not-false _ (b .0);
-      housed = not-false _ (c .0);
-      stages = eqb-true stage (2 * stageTwiddles p) (not-false _ (d .0));
-      ends = eqb-true end (2 * endCount (p .n)) (not-false _ (f .0));
-    }
+taken p W stage end v e g = let t = sym e ∙ g in search accepted depth 8
 
 -- ---- what a call leaves
 

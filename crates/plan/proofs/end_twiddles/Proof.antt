@@ -1,6 +1,6 @@
 -- `plan::end_twiddles` meets its contract. Assumes nothing.
-use mathlib.Core.Path.{sym, _∙_}
-use borrow.Author.Tests.{not-true, not-false}
+use mathlib.Core.Path.{sym}
+use Rattle.refusal.proofs.Rows.{accepted}
 use Rattle.plan.proofs.Planning.{record-refused, record-accepted}
 use Rattle.plan.proofs.Counts.{plan-half, plan-sized}
 use borrow.Author.Needs.{needs}
@@ -12,13 +12,13 @@ is-planned-requires : tie.Need-is-planned-requires
 is-planned-requires c κs = search needs
 
 returns : tie.Need-returns
-returns c = record { answer = sym (simp (record-refused (c .before .before .args .plan) (sym (c .before .is-planned .ensures) ∙ not-true _ (c .if1 .taken)))) }
+returns c = record { answer = sym (simp (record-refused (c .before .before .args .plan) (search accepted))) }
 
 end-count-requires : tie.Need-end-count-requires
-end-count-requires c κs = let h = plan-half (c .before .before .args .plan) (sym (c .before .is-planned .ensures) ∙ not-false _ (c .if1 .left)) in let s = plan-sized (c .before .before .args .plan) (sym (c .before .is-planned .ensures) ∙ not-false _ (c .if1 .left)) in omega (arith, h, s .twice)
+end-count-requires c κs = let h = plan-half (c .before .before .args .plan) (search accepted) in let s = plan-sized (c .before .before .args .plan) (search accepted) in omega (arith, h, s .twice)
 
 returns-2 : tie.Need-returns-2
-returns-2 c = record { answer = sym (simp (record-accepted (c .before .before .before .args .plan) (sym (c .before .before .is-planned .ensures) ∙ not-false _ (c .before .if1 .left)), ← c .end-count .ensures)) }
+returns-2 c = record { answer = sym (simp (record-accepted (c .before .before .before .args .plan) (search accepted), ← c .end-count .ensures)) }
 
 pub end-twiddles-spec : {M : Type 1} → statement M
 end-twiddles-spec = tie.close (tie.spec is-planned-requires returns end-count-requires returns-2)

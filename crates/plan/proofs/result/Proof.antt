@@ -1,6 +1,6 @@
 -- `plan::result` meets its contract. Assumes nothing.
-use mathlib.Core.Path.{sym, _∙_}
-use borrow.Author.Tests.{not-true, not-false}
+use mathlib.Core.Path.{sym}
+use Rattle.refusal.proofs.Rows.{accepted}
 use Rattle.plan.proofs.Planning.{record-refused, record-accepted}
 use borrow.Author.Needs.{needs}
 use Rattle.plan.proofs.result.Statement.{statement}
@@ -10,13 +10,13 @@ is-planned-requires : tie.Need-is-planned-requires
 is-planned-requires c κs = search needs
 
 returns : tie.Need-returns
-returns c = record { answer = sym (simp (record-refused (c .before .before .args .plan) (sym (c .before .is-planned .ensures) ∙ not-true _ (c .if1 .taken)))) }
+returns c = record { answer = sym (simp (record-refused (c .before .before .args .plan) (search accepted))) }
 
 result-in-requires : tie.Need-result-in-requires
 result-in-requires c κs = search needs
 
 returns-2 : tie.Need-returns-2
-returns-2 c = record { answer = sym (simp (record-accepted (c .before .before .before .args .plan) (sym (c .before .before .is-planned .ensures) ∙ not-false _ (c .before .if1 .left)), ← c .result-in .ensures)) }
+returns-2 c = record { answer = sym (simp (record-accepted (c .before .before .before .args .plan) (search accepted), ← c .result-in .ensures)) }
 
 pub result-spec : {M : Type 1} → statement M
 result-spec = tie.close (tie.spec is-planned-requires returns result-in-requires returns-2)

@@ -1,6 +1,6 @@
 -- `plan::stage_twiddles` meets its contract. Assumes nothing.
-use mathlib.Core.Path.{sym, _∙_}
-use borrow.Author.Tests.{not-true, not-false}
+use mathlib.Core.Path.{sym}
+use Rattle.refusal.proofs.Rows.{accepted}
 use Rattle.plan.proofs.Planning.{record-refused, record-accepted}
 use borrow.Author.Needs.{needs}
 use native.Mathlib.Omega.{arith}
@@ -11,13 +11,13 @@ is-planned-requires : tie.Need-is-planned-requires
 is-planned-requires c κs = search needs
 
 returns : tie.Need-returns
-returns c = record { answer = sym (simp (record-refused (c .before .before .args .plan) (sym (c .before .is-planned .ensures) ∙ not-true _ (c .if1 .taken)))) }
+returns c = record { answer = sym (simp (record-refused (c .before .before .args .plan) (search accepted))) }
 
 twiddle-start-requires : tie.Need-twiddle-start-requires
-twiddle-start-requires c κs = ((sym (c .before .is-planned .ensures) ∙ not-false _ (c .if1 .left)), omega arith)
+twiddle-start-requires c κs = (search accepted, omega arith)
 
 returns-2 : tie.Need-returns-2
-returns-2 c = record { answer = sym (simp (record-accepted (c .before .before .before .args .plan) (sym (c .before .before .is-planned .ensures) ∙ not-false _ (c .before .if1 .left)), ← c .twiddle-start .ensures)) }
+returns-2 c = record { answer = sym (simp (record-accepted (c .before .before .before .args .plan) (search accepted), ← c .twiddle-start .ensures)) }
 
 pub stage-twiddles-spec : {M : Type 1} → statement M
 stage-twiddles-spec =

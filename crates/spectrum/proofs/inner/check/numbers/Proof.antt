@@ -1,25 +1,47 @@
 -- `spectrum::inner::check::numbers` meets its contract. Assumes nothing.
+use Prim.Native.Nat.{_+_, _<_, _≤_}
+use native.Mathlib.Omega.{arith}
 use mathlib.Core.Path.{refl}
+use mathlib.Core.List.{_++_}
 use lib.Ieee.{ofBits}
+use lib.ListN.{length, length-append}
 use borrow.Author.Needs.{needs}
-use Rattle.spectrum.proofs.Verdicts.{large-number, stage-twiddle, end-twiddle, all-fit}
+use Rattle.refusal.proofs.Rows.{deciding}
+use Rattle.spectrum.specs.Calls.{numberVerdict}
+use Rattle.spectrum.proofs.Verdicts.{in-stages, in-ends}
 use Rattle.spectrum.proofs.inner.check.numbers.Statement.{statement}
 use Rattle.spectrum.proofs.inner.check.numbers.Tie as tie
 
 returns : tie.Need-returns
-returns c = let a = c .before .before .before .before .before .args in λ k e. large-number k (a .input .now) (a .stage .now) (a .end .now) _ (c .before .first-unfit .ensures k e) (c .if1 .taken)
+unfolding numberVerdict
+returns c = λ k e. search (deciding, c .before .first-unfit .ensures k e)
 
 returns-2 : tie.Need-returns-2
-unfolding ofBits
-returns-2 c = let a = c .before .before .before .before .before .before .before .args in λ k e. stage-twiddle k (a .input .now) (a .stage .now) (a .end .now) _ (c .before .before .before .first-unfit .ensures k e) (c .before .before .if1 .left) _ (c .before .first-unfit2 .ensures 0 refl) (c .if2 .taken)
+unfolding ofBits numberVerdict
+returns-2 c = λ k e.
+    let a = c .before .before .before .before .before .before .before .args in
+    let at = in-stages (a .stage .now) (a .end .now) _ (c .before .first-unfit2 .ensures 0 refl) (c .if2 .taken) in
+    search (deciding, c .before .before .before .first-unfit .ensures k e)
 
 returns-3 : tie.Need-returns-3
-unfolding ofBits
-returns-3 c = let a = c .before .before .before .before .before .before .before .before .before .args in λ k e. end-twiddle k (a .input .now) (a .stage .now) (a .end .now) _ (c .before .before .before .before .before .first-unfit .ensures k e) (c .before .before .before .before .if1 .left) _ (c .before .before .before .first-unfit2 .ensures 0 refl) (c .before .before .if2 .left) _ (c .before .first-unfit3 .ensures 0 refl) (c .if3 .taken)
+unfolding ofBits numberVerdict
+returns-3 c = λ k e.
+    let a = c .before .before .before .before .before .before .before .before .before .args in
+    let s = c .before .before in
+    let at = in-ends (a .stage .now) (a .end .now) _ (s .before .first-unfit2 .ensures 0 refl) (s .if2 .left) _ (c .before .first-unfit3 .ensures 0 refl) in
+    let inside : length (a .stage .now) + c .before .first-unfit3 .result < length (a .stage .now ++ a .end .now) =
+    omega (arith, c .if3 .taken, length-append (a .stage .now) (a .end .now)) in
+    search (deciding, s .before .before .before .first-unfit .ensures k e)
 
 returns-4 : tie.Need-returns-4
-unfolding ofBits
-returns-4 c = let a = c .before .before .before .before .before .before .before .before .before .args in λ k e. all-fit k (a .input .now) (a .stage .now) (a .end .now) _ (c .before .before .before .before .before .first-unfit .ensures k e) (c .before .before .before .before .if1 .left) _ (c .before .before .before .first-unfit2 .ensures 0 refl) (c .before .before .if2 .left) _ (c .before .first-unfit3 .ensures 0 refl) (c .if3 .left)
+unfolding ofBits numberVerdict
+returns-4 c = λ k e.
+    let a = c .before .before .before .before .before .before .before .before .before .args in
+    let s = c .before .before in
+    let at = in-ends (a .stage .now) (a .end .now) _ (s .before .first-unfit2 .ensures 0 refl) (s .if2 .left) _ (c .before .first-unfit3 .ensures 0 refl) in
+    let past : length (a .stage .now ++ a .end .now) ≤ length (a .stage .now) + c .before .first-unfit3 .result =
+    omega (arith, c .if3 .left, length-append (a .stage .now) (a .end .now)) in
+    search (deciding, s .before .before .before .first-unfit .ensures k e)
 
 pub numbers-spec : {M : Type 1} → statement M
 numbers-spec =

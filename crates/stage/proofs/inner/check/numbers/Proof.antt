@@ -2,25 +2,22 @@
 use mathlib.Core.Path.{refl}
 use lib.Ieee.{ofBits}
 use borrow.Author.Needs.{needs}
-use Rattle.stage.proofs.Verdicts.{large-number, large-twiddle, all-fit}
+use Rattle.refusal.proofs.Rows.{deciding}
+use Rattle.stage.specs.Calls.{numberVerdict}
 use Rattle.stage.proofs.inner.check.numbers.Statement.{statement}
 use Rattle.stage.proofs.inner.check.numbers.Tie as tie
 
 returns : tie.Need-returns
-unfolding ofBits
-returns c = let a = c .before .before .before .before .args in large-number (a .input .now) (a .twiddles .now) _ (c .before .first-unfit .ensures 48 refl) (c .if1 .taken)
+unfolding ofBits numberVerdict
+returns c = search (deciding, c .before .first-unfit .ensures 48 refl)
 
 returns-2 : tie.Need-returns-2
-unfolding ofBits
-returns-2 c =
-    let a = c .before .before .before .before .before .before .args in
-    large-twiddle (a .input .now) (a .twiddles .now) _ (c .before .before .before .first-unfit .ensures 48 refl) (c .before .before .if1 .left) _ (c .before .first-unfit2 .ensures 0 refl) (c .if2 .taken)
+unfolding ofBits numberVerdict
+returns-2 c = search (deciding, c .before .before .before .first-unfit .ensures 48 refl, c .before .first-unfit2 .ensures 0 refl)
 
 returns-3 : tie.Need-returns-3
-unfolding ofBits
-returns-3 c =
-    let a = c .before .before .before .before .before .before .args in
-    all-fit (a .input .now) (a .twiddles .now) _ (c .before .before .before .first-unfit .ensures 48 refl) (c .before .before .if1 .left) _ (c .before .first-unfit2 .ensures 0 refl) (c .if2 .left)
+unfolding ofBits numberVerdict
+returns-3 c = search (deciding, c .before .before .before .first-unfit .ensures 48 refl, c .before .first-unfit2 .ensures 0 refl)
 
 pub numbers-spec : {M : Type 1} → statement M
 numbers-spec =
