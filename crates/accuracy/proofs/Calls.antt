@@ -11,7 +11,7 @@ use lib.Ieee.{Float, nan, inf, fin, binary32, fits, down}
 use lib.Ieee.Bits.{ofBits-fits}
 use lib.Ieee.Fits.{down-pos}
 use lib.Ieee.Scale.{finite}
-use Rattle.plan.specs.Counts.{radix}
+use Rattle.counts.specs.Counts.{radix}
 use Rattle.finite.specs.Bits.{HoldAll}
 use Rattle.finite.specs.Sizes.{AtMost}
 use Rattle.accuracy.specs.Gauss.{Disc}

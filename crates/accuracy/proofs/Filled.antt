@@ -8,10 +8,10 @@ use lib.Dec.{lit≤}
 use lib.ListN.{length}
 use Rattle.refusal.specs.declared.Verdict.{Verdict}
 use Rattle.refusal.specs.declared.Verdict.the-variants.{Accepted}
-use Rattle.plan.specs.Counts.{radix}
+use Rattle.counts.specs.Counts.{radix}
 use Rattle.plan.specs.Record.{isPlanned}
 use Rattle.plan.specs.declared.Record.{Record}
-use Rattle.plan.proofs.Counts.{plan-order}
+use Rattle.plan.proofs.Bounds.{plan-order}
 use Rattle.schedule.specs.Plans.{inUse}
 use Rattle.schedule.proofs.Plans.{use-length, use-radix-few}
 use Rattle.turn.specs.Calls.{part}

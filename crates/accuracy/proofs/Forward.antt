@@ -9,7 +9,7 @@ use lib.Ieee.{Float, nan, binary32, mul, ofBits}
 use Rattle.refusal.specs.declared.Verdict.{Verdict}
 use Rattle.refusal.specs.declared.Verdict.the-variants.{Accepted}
 use Rattle.refusal.proofs.Rows.{settled}
-use Rattle.plan.specs.Counts.{endCount}
+use Rattle.counts.specs.Counts.{endCount}
 use Rattle.plan.specs.declared.Record.{Record}
 use Rattle.schedule.specs.Plans.{inUse}
 use Rattle.schedule.specs.Stage.{stage, run, plain}

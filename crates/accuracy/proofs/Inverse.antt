@@ -12,9 +12,9 @@ use lib.Ieee.{Float, nan, binary32, neg}
 use Rattle.refusal.specs.declared.Verdict.{Verdict}
 use Rattle.refusal.specs.declared.Verdict.the-variants.{Accepted}
 use Rattle.refusal.proofs.Rows.{settled}
-use Rattle.plan.specs.Counts.{endCount, resultIn}
-use Rattle.plan.specs.declared.Buffer.{Buffer}
-use Rattle.plan.specs.declared.Buffer.the-variants.{Data, Scratchpad}
+use Rattle.counts.specs.Counts.{endCount, resultIn}
+use Rattle.counts.specs.declared.Buffer.{Buffer}
+use Rattle.counts.specs.declared.Buffer.the-variants.{Data, Scratchpad}
 use Rattle.plan.specs.declared.Record.{Record}
 use Rattle.schedule.specs.Buffers.{Two, heldIn}
 use Rattle.schedule.specs.Plans.{inUse}

@@ -9,9 +9,9 @@ use lib.Pow.{pow-pos}
 use lib.Arith.{digits-lt, digits-mod}
 use lib.ListN.{length, getD, drop}
 use lib.Ieee.{binary32}
-use Rattle.plan.specs.Counts.{stride, radix}
-use Rattle.plan.specs.Lists.{product}
-use Rattle.plan.proofs.Counts.{stride-none}
+use Rattle.counts.specs.Counts.{stride, radix}
+use Rattle.radices.specs.Lists.{product}
+use Rattle.counts.proofs.Counts.{stride-none}
 use Rattle.schedule.specs.Stage.{twiddleTurn, kernelTurn, twiddledIn, read as readOf, total as totalOf, plain, output, stageBy, stage, run, iteration, place}
 use Rattle.schedule.proofs.Cells.{getD-tabulate, pos-left, pos-right, by-stride, by-radix, by-both, iteration-block, place-block}
 use Rattle.schedule.proofs.Strides.{stride-suc, stride-drop, stride-length}

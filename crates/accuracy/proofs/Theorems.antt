@@ -16,11 +16,11 @@ use lib.ListN.{length, getD}
 use lib.Ieee.{Float, nan, binary32}
 use Rattle.refusal.specs.declared.Verdict.{Verdict}
 use Rattle.refusal.specs.declared.Verdict.the-variants.{Accepted}
-use Rattle.plan.specs.Lists.{product, padded, countOf, eqList}
-use Rattle.plan.specs.Merging.{tally, sorted}
+use Rattle.radices.specs.Lists.{product, padded, countOf, eqList}
+use Rattle.merging.specs.Merging.{tally, sorted}
 use Rattle.plan.specs.Record.{recordOf, inOrder, sized, isPlanned}
 use Rattle.plan.specs.declared.Record.{Record}
-use Rattle.plan.proofs.Counts.{plan-order, plan-half}
+use Rattle.plan.proofs.Bounds.{plan-order, plan-half}
 use Rattle.plan.proofs.Records.{passes-plannable}
 use Rattle.plan.proofs.Theorems.{record-depends-on-n}
 use Rattle.schedule.specs.Plans.{inUse}

@@ -13,10 +13,10 @@ use Rattle.refusal.specs.declared.Refusal.the-variants.{Base}
 use Rattle.refusal.specs.declared.Verdict.{Verdict}
 use Rattle.refusal.specs.declared.Verdict.the-variants.{Accepted, Refused}
 use Rattle.refusal.proofs.Rows.{settled}
-use Rattle.plan.specs.Counts.{radix, stride, twiddleCount, twiddleStart, endCount, resultIn}
-use Rattle.plan.specs.Half.{halving, halved, half}
-use Rattle.plan.specs.Lists.{isRadix, product, firstThat, firstBad, indexOf, firstOver, countOf, padded, eqList}
-use Rattle.plan.specs.Merging.{tally, applies, merge, firstRule, rulesUpTo, rules, mergedBy, merged, letters, sorted}
+use Rattle.counts.specs.Counts.{radix, stride, twiddleCount, twiddleStart, endCount, resultIn}
+use Rattle.merging.specs.Half.{halving, halved, half}
+use Rattle.radices.specs.Lists.{isRadix, product, firstThat, firstBad, indexOf, firstOver, countOf, padded, eqList}
+use Rattle.merging.specs.Merging.{tally, applies, merge, firstRule, rulesUpTo, rules, mergedBy, merged, letters, sorted}
 use Rattle.plan.specs.Record.{planVerdict, factors, recordOf, refusedPlan, acceptedPlan, planned, Plans, inOrder, sized, isPlanned}
 use Rattle.plan.specs.declared.Planned.{Planned}
 use Rattle.plan.specs.declared.Record.{Record}

@@ -3,12 +3,12 @@ use Prim.Native.Nat.{ℕ}
 use native.Mathlib.Omega.{arith}
 use mathlib.Core.Path.{_≡_, refl, ap, _∙_}
 use mathlib.Core.List.{List, [], _∷_}
-use Rattle.plan.specs.Counts.{radix, twiddleCount, twiddleStart, stageTwiddles, endCount, recordVerdict, counted, CountsStage, CountsEnd}
-use Rattle.plan.specs.Half.{halving, halved, half}
-use Rattle.plan.specs.Lists.{isRadix, product, firstThat, firstBad, indexOf, firstOver, countOf, padded, eqList}
-use Rattle.plan.specs.Merging.{tally, applies, merge, firstRule, rulesUpTo, rules, mergedBy, merged, letters, sorted, marked}
+use Rattle.counts.specs.Counts.{radix, twiddleCount, twiddleStart, stageTwiddles, endCount, recordVerdict, counted, CountsStage, CountsEnd}
+use Rattle.merging.specs.Half.{halving, halved, half}
+use Rattle.radices.specs.Lists.{isRadix, product, firstThat, firstBad, indexOf, firstOver, countOf, padded, eqList}
+use Rattle.merging.specs.Merging.{tally, applies, merge, firstRule, rulesUpTo, rules, mergedBy, merged, letters, sorted, marked}
 use Rattle.plan.specs.Record.{planVerdict, factors, recordOf, acceptedPlan, planned, Plans, inOrder, sized, isPlanned}
-use Rattle.plan.specs.declared.Counted.{Counted}
+use Rattle.counts.specs.declared.Counted.{Counted}
 use Rattle.plan.specs.declared.Planned.{Planned}
 
 -- ---- merges

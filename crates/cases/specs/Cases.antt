@@ -9,14 +9,14 @@ use lib.ListN.{length, replicate}
 use Rattle.refusal.specs.Refusal.{numberIn, placeIn}
 use Rattle.refusal.specs.declared.Verdict.{Verdict}
 use Rattle.refusal.specs.declared.Verdict.the-variants.{Accepted}
-use Rattle.plan.specs.Counts.{resultIn}
-use Rattle.plan.specs.Lists.{padded}
-use Rattle.plan.specs.Merging.{letter, marked}
+use Rattle.counts.specs.Counts.{resultIn}
+use Rattle.radices.specs.Lists.{padded}
+use Rattle.merging.specs.Merging.{letter, marked}
 use Rattle.plan.specs.Record.{Plans}
 use Rattle.plan.specs.declared.Planned.{Planned}
 use Rattle.plan.specs.declared.Record.{Record}
-use Rattle.plan.specs.declared.inner.merging.Rule.{Rule}
-use Rattle.plan.specs.declared.inner.merging.Rule.the-variants.{A, B, C}
+use Rattle.merging.specs.declared.inner.merging.Rule.{Rule}
+use Rattle.merging.specs.declared.inner.merging.Rule.the-variants.{A, B, C}
 use Rattle.schedule.specs.Buffers.{Two, heldIn}
 use Rattle.schedule.specs.Plans.{inUse}
 use Rattle.schedule.specs.Stage.{run}

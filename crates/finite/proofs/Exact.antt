@@ -11,11 +11,11 @@ use lib.Dec.{lit≤}
 use lib.IntN.{ℤ, pos, _*ℤ_}
 use lib.Ieee.{Float, nan, binary32, add, sub, neg}
 use lib.ListN.{length, getD}
-use Rattle.plan.specs.Counts.{radix, stride, resultIn}
-use Rattle.plan.specs.Lists.{product}
+use Rattle.counts.specs.Counts.{radix, stride, resultIn}
+use Rattle.radices.specs.Lists.{product}
 use Rattle.plan.specs.Record.{isPlanned}
 use Rattle.plan.specs.declared.Record.{Record}
-use Rattle.plan.proofs.Counts.{plan-radix-bounds}
+use Rattle.plan.proofs.Bounds.{plan-radix-bounds}
 use Rattle.schedule.specs.Buffers.{alternated, driven, heldIn}
 use Rattle.schedule.specs.Plans.{inUse}
 use Rattle.schedule.specs.Stage.{tabulate, kernelTurn, iteration, place, twiddledIn, read, total, plain, output, stageBy, stage}

@@ -9,8 +9,8 @@ use native.Mathlib.Omega.{arith}
 use lib.Dec.{lit≤}
 use lib.Ieee.{Float, nan, inf, fin, mul, binary32}
 use lib.ListN.{getD, drop}
-use Rattle.plan.specs.Counts.{radix, stride}
-use Rattle.plan.specs.Lists.{product}
+use Rattle.counts.specs.Counts.{radix, stride}
+use Rattle.radices.specs.Lists.{product}
 use Rattle.plan.specs.Record.{isPlanned}
 use Rattle.plan.specs.declared.Record.{Record}
 use Rattle.schedule.specs.Plans.{inUse}

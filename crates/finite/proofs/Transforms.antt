@@ -8,13 +8,14 @@ use native.Mathlib.Omega.{arith}
 use lib.Ieee.{Float, nan}
 use lib.ListN.{length, getD, drop, length-append, length-drop, List·getD-append}
 use lib.Seq.{getD-append-add, getD-take, getD-drop, length-take-le}
-use Rattle.plan.specs.Counts.{radix, twiddleCount, twiddleStart, stageTwiddles, endCount, resultIn}
-use Rattle.plan.specs.Lists.{product}
+use Rattle.counts.specs.Counts.{radix, twiddleCount, twiddleStart, stageTwiddles, endCount, resultIn}
+use Rattle.radices.specs.Lists.{product}
 use Rattle.plan.specs.Record.{isPlanned}
-use Rattle.plan.specs.declared.Buffer.{Buffer}
-use Rattle.plan.specs.declared.Buffer.the-variants.{Data, Scratchpad}
+use Rattle.counts.specs.declared.Buffer.{Buffer}
+use Rattle.counts.specs.declared.Buffer.the-variants.{Data, Scratchpad}
 use Rattle.plan.specs.declared.Record.{Record}
-use Rattle.plan.proofs.Counts.{plan-order, count-later}
+use Rattle.plan.proofs.Bounds.{plan-order}
+use Rattle.counts.proofs.Counts.{count-later}
 use Rattle.schedule.specs.Buffers.{Two, driven, heldIn}
 use Rattle.schedule.specs.Plans.{inUse}
 use Rattle.schedule.proofs.Cells.{length-tabulate, getD-tabulate}

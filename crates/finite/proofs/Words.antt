@@ -9,7 +9,7 @@ use lib.Dec.{eqb, lit≤}
 use lib.Ieee.{Float, nan}
 use lib.ListN.{length, getD}
 use borrow.Author.Tests.{eqb-false, eqb-true}
-use Rattle.plan.specs.Counts.{radix, stride}
+use Rattle.counts.specs.Counts.{radix, stride}
 use Rattle.plan.specs.Record.{isPlanned}
 use Rattle.plan.specs.declared.Record.{Record}
 use Rattle.schedule.specs.Buffers.{Two, across, alternated, copiedBy, driven}

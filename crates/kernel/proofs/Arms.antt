@@ -9,8 +9,8 @@ use native.Mathlib.Nat.{mul-one, mul-le-mul-right, suc-mul}
 use native.Mathlib.Omega.{arith}
 use lib.ListN.{getD}
 use lib.Ieee.{Float}
-use Rattle.plan.specs.Lists.{isRadix}
-use Rattle.plan.proofs.Products.{Radix, radix-is}
+use Rattle.radices.specs.Lists.{isRadix}
+use Rattle.radices.proofs.Products.{Radix, radix-is}
 use Rattle.schedule.specs.Stage.{tabulate}
 use Rattle.floats.specs.declared.complex.Complex.{Complex}
 use Rattle.floats.specs.Complexes.{blank, cell}

@@ -9,10 +9,11 @@ use lib.Dec.{eqb}
 use lib.ListN.{length, getD, drop}
 use lib.Ieee.{Float}
 use borrow.Author.Tests.{eq-eqb, ne-eqb}
-use Rattle.plan.specs.Counts.{radix, stride}
-use Rattle.plan.specs.Lists.{product}
+use Rattle.counts.specs.Counts.{radix, stride}
+use Rattle.radices.specs.Lists.{product}
 use Rattle.plan.specs.declared.Record.{Record}
-use Rattle.plan.proofs.Counts.{plan-half, plan-radix, plan-radix-bounds, count-later, stride-none}
+use Rattle.plan.proofs.Bounds.{plan-half, plan-radix, plan-radix-bounds}
+use Rattle.counts.proofs.Counts.{count-later, stride-none}
 use Rattle.schedule.specs.Plans.{inUse}
 use Rattle.schedule.specs.Stage.{stage}
 use Rattle.schedule.proofs.Cells.{by-radix}

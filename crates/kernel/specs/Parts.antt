@@ -5,8 +5,8 @@ use mathlib.Core.List.{List}
 use Prim.Native.Nat.{ℕ, zero, suc, _+_, _-_, _*_, _/_, _%_, _<_, _≤_}
 use lib.ListN.{length, getD}
 use lib.Ieee.{Float, nan}
-use Rattle.plan.specs.Counts.{twiddleCount}
-use Rattle.plan.specs.Lists.{isRadix}
+use Rattle.counts.specs.Counts.{twiddleCount}
+use Rattle.radices.specs.Lists.{isRadix}
 use Rattle.plan.specs.Record.{isPlanned}
 use Rattle.plan.specs.declared.Record.{Record}
 use Rattle.schedule.specs.Stage.{Arith, index, plain}

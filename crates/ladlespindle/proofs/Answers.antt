@@ -7,19 +7,19 @@ use mathlib.Core.List.{List}
 use Rattle.refusal.specs.Refusal.{numberIn, placeIn}
 use Rattle.refusal.specs.declared.Verdict.{Verdict}
 use Rattle.refusal.specs.declared.Verdict.the-variants.{Accepted, Refused}
-use Rattle.plan.specs.Lists.{product, countOf, padded, eqList}
-use Rattle.plan.specs.Merging.{tally, sorted}
+use Rattle.radices.specs.Lists.{product, countOf, padded, eqList}
+use Rattle.merging.specs.Merging.{tally, sorted}
 use Rattle.plan.specs.Record.{planVerdict, recordOf, noRecord, acceptedPlan, refusedPlan, plannedBy, planned, Plannable, Accepts, inOrder, sized, isPlanned}
-use Rattle.plan.specs.Counts.{recordVerdict, counted, located, bufferNumber}
+use Rattle.counts.specs.Counts.{recordVerdict, counted, located, bufferNumber}
 use Rattle.plan.specs.declared.Record.{Record}
 use Rattle.plan.specs.declared.Planned.{Planned}
-use Rattle.plan.specs.declared.Counted.{Counted}
-use Rattle.plan.specs.declared.Buffer.{Buffer}
-use Rattle.plan.specs.declared.Located.{Located}
+use Rattle.counts.specs.declared.Counted.{Counted}
+use Rattle.counts.specs.declared.Buffer.{Buffer}
+use Rattle.counts.specs.declared.Located.{Located}
 use Rattle.plan.proofs.Records.{accepted-good, planned-passes}
-use Rattle.plan.proofs.Planning.{record-accepted, record-refused}
-use Rattle.plan.specs.declared.Scaled.{Scaled}
-use Rattle.plan.specs.Scaling.{Scales}
+use Rattle.counts.proofs.Counts.{record-accepted, record-refused}
+use Rattle.scaling.specs.declared.Scaled.{Scaled}
+use Rattle.scaling.specs.Scaling.{Scales}
 use Rattle.ladlespindle.specs.Exports.{orZero, countFor, crossed, GivesAcceptance, GivesScaling}
 
 -- the record of a refused list is one that planning does not give

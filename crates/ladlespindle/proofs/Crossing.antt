@@ -6,7 +6,7 @@ use Rattle.refusal.specs.Refusal.{numberOf, placeOf, numberIn, placeIn, left, S
 use Rattle.refusal.specs.declared.Refusal.{Refusal}
 use Rattle.refusal.specs.declared.Verdict.{Verdict}
 use Rattle.refusal.specs.declared.Verdict.the-variants.{Accepted, Refused}
-use Rattle.plan.specs.Counts.{resultIn, bufferNumber}
+use Rattle.counts.specs.Counts.{resultIn, bufferNumber}
 use Rattle.plan.specs.declared.Record.{Record}
 use Rattle.schedule.specs.Buffers.{Two}
 use Rattle.turn.specs.Calls.{part, turnVerdict, given, turned, Turns}

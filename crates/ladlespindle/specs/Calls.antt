@@ -6,7 +6,7 @@ use lib.Ieee.{Float}
 use lib.ListN.{length}
 use Rattle.refusal.specs.Refusal.{numberIn, placeIn, left}
 use Rattle.refusal.specs.declared.Verdict.{Verdict}
-use Rattle.plan.specs.Counts.{resultIn, bufferNumber}
+use Rattle.counts.specs.Counts.{resultIn, bufferNumber}
 use Rattle.plan.specs.declared.Record.{Record}
 use Rattle.schedule.specs.Buffers.{Two}
 use Rattle.turn.specs.Calls.{part, turnVerdict}

@@ -8,10 +8,10 @@ use Rattle.refusal.specs.Refusal.{numberIn, placeIn}
 use Rattle.refusal.specs.declared.Verdict.{Verdict}
 use Rattle.refusal.specs.declared.Verdict.the-variants.{Accepted, Refused}
 use Rattle.plan.specs.Record.{planVerdict, recordOf, planned, Plannable}
-use Rattle.plan.specs.Counts.{stageTwiddles, endCount, resultIn, bufferNumber}
-use Rattle.plan.specs.Scaling.{scaled}
+use Rattle.counts.specs.Counts.{stageTwiddles, endCount, resultIn, bufferNumber}
+use Rattle.scaling.specs.Scaling.{scaled}
 use Rattle.plan.specs.declared.Record.{Record}
-use Rattle.plan.specs.declared.Scaled.{Scaled}
+use Rattle.scaling.specs.declared.Scaled.{Scaled}
 use Rattle.ladlespindle.specs.declared.Scaling.{Scaling}
 
 -- a number where the list is accepted, 0 where it is refused

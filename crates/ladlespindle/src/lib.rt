@@ -1,16 +1,16 @@
 // The functions that a host written in C links: planning, its refusals, counts and scaling, on lists of radices; a single turn; the
 // filling of twiddles; a stage in floats; both transforms and the power of bins; and the stages in remainders, on a plan and buffers of
 // whole numbers.
-use plan::Radices;
+use counts::inner::stages::result_in;
 use plan::Record;
-use plan::inner::stages::result_in;
+use radices::Radices;
 use refusal::Verdict;
 use turn::inner::words::words_of;
 ghost use mathlib.Core.Path.{_≡_};
 ghost use lib.ListN.{getD};
 ghost use Rattle.ladlespindle.specs.Exports.{GivesPlan, GivesNumber, GivesPlace, GivesLength, GivesHalf, GivesStages, GivesMerges, GivesRadix, GivesLetter, GivesStageTwiddles, GivesEndTwiddles, GivesResult, GivesAcceptance, GivesScaling};
 ghost use Rattle.refusal.specs.Refusal.{left};
-ghost use Rattle.plan.specs.Counts.{resultIn, bufferNumber};
+ghost use Rattle.counts.specs.Counts.{resultIn, bufferNumber};
 ghost use Rattle.ladlespindle.specs.Calls.{GivesTurn, GivesForward, GivesInverse, GivesStage, GivesSpectrum, GivesSamples, GivesPower, GivesRemainderStage, GivesRemainderRun};
 
 // What scaling answers, with the refusal as two numbers.
@@ -140,7 +140,7 @@ pub extern "C" fn ladlespindle_merge_letter(list: &[u8], index: usize) -> u8
 pub extern "C" fn ladlespindle_stage_twiddles(list: &[u8]) -> usize
     ensures { λ r. ⌜ GivesStageTwiddles (now (list .entry)) r ⌝ }
 {
-    plan::stage_twiddles(plan::plan(list).plan).count
+    counts::stage_twiddles(plan::plan(list).plan).count
 }
 
 // How many end twiddles a list's plan has, 0 on a refusal.
@@ -148,7 +148,7 @@ pub extern "C" fn ladlespindle_stage_twiddles(list: &[u8]) -> usize
 pub extern "C" fn ladlespindle_end_twiddles(list: &[u8]) -> usize
     ensures { λ r. ⌜ GivesEndTwiddles (now (list .entry)) r ⌝ }
 {
-    plan::end_twiddles(plan::plan(list).plan).count
+    counts::end_twiddles(plan::plan(list).plan).count
 }
 
 // The buffer that holds the result of a run: 0 for Data and on a refusal, 1 for Scratchpad.
@@ -156,7 +156,7 @@ pub extern "C" fn ladlespindle_end_twiddles(list: &[u8]) -> usize
 pub extern "C" fn ladlespindle_result(list: &[u8]) -> u32
     ensures { λ r. ⌜ GivesResult (now (list .entry)) r ⌝ }
 {
-    let buffer = plan::result(plan::plan(list).plan).buffer;
+    let buffer = counts::result(plan::plan(list).plan).buffer;
     buffer.number()
 }
 
@@ -173,7 +173,7 @@ pub extern "C" fn ladlespindle_accepts(plan: Record) -> u32
 pub extern "C" fn ladlespindle_scale(in_list: &[u8], out_list: &[u8]) -> Scaling
     ensures { λ r. ⌜ GivesScaling (now («in_list» .entry)) (now («out_list» .entry)) r ⌝ }
 {
-    let scaled = plan::scale(in_list, out_list);
+    let scaled = scaling::scale(in_list, out_list);
     let verdict = scaled.verdict;
     let grown_in = scaled.in_list;
     let grown_out = scaled.out_list;

@@ -1,11 +1,6 @@
--- The laws that the proofs share, by subject.
-pub mod Lists
-pub mod Merging
-pub mod Products
-pub mod Half
-pub mod Records
-pub mod Counts
+-- The laws that callers' proofs cite.
+pub mod Bounds
 pub mod Planning
-pub mod Scaling
-pub mod Unique
+pub mod Records
 pub mod Theorems
+pub mod Unique

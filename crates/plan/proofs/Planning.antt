@@ -2,26 +2,22 @@
 use Prim.Native.Nat.{ℕ, _/_, _≤_}
 use native.Mathlib.Omega.{arith}
 use mathlib.Core.Path.{_≡_, refl, ap, _∙_}
-use mathlib.Core.Bool.{true, false}
 use mathlib.Core.List.{List}
 use lib.ListN.{length, take}
 use Rattle.refusal.specs.declared.Refusal.{Refusal}
-use Rattle.refusal.specs.declared.Refusal.the-variants.{NotPlanned}
 use Rattle.refusal.specs.declared.Verdict.{Verdict}
 use Rattle.refusal.specs.declared.Verdict.the-variants.{Accepted, Refused}
-use Rattle.plan.specs.declared.Record.{Record}
-use Rattle.plan.specs.declared.Radices.{Radices}
+use Rattle.radices.specs.declared.Radices.{Radices}
 use Rattle.plan.specs.declared.Planned.{Planned}
-use Rattle.plan.specs.declared.inner.merging.Tally.{Tally}
-use Rattle.plan.specs.declared.inner.merging.Merged.{Merged}
-use Rattle.plan.specs.Lists.{product, padded, listed}
-use Rattle.plan.specs.Half.{half}
-use Rattle.plan.specs.Merging.{tally, total, sorted, mergeAll}
-use Rattle.plan.specs.Record.{planVerdict, factors, recordOf, refusedPlan, acceptedPlan, plannedBy, planned, isPlanned}
-use Rattle.plan.specs.Counts.{recordVerdict}
-use Rattle.plan.proofs.Lists.{length-padded}
-use Rattle.plan.proofs.Merging.{merged-leaves}
-use Rattle.plan.proofs.Products.{total-few}
+use Rattle.merging.specs.declared.inner.merging.Tally.{Tally}
+use Rattle.merging.specs.declared.inner.merging.Merged.{Merged}
+use Rattle.radices.specs.Lists.{product, padded, listed}
+use Rattle.merging.specs.Half.{half}
+use Rattle.merging.specs.Merging.{tally, total, sorted, mergeAll}
+use Rattle.plan.specs.Record.{planVerdict, factors, recordOf, refusedPlan, acceptedPlan, plannedBy, planned}
+use Rattle.radices.proofs.Lists.{length-padded}
+use Rattle.merging.proofs.Merging.{merged-leaves}
+use Rattle.merging.proofs.Weights.{total-few}
 use Rattle.plan.proofs.Records.{Good, good-few, good-halved, take-padded}
 
 -- ---- the answer
@@ -62,13 +58,3 @@ module _ (xs : List ℕ) (g : Good xs) (h : Radices) (e : h ≡ listed (half xs)
         → _≡_ {A = Planned} (record { verdict = Accepted; plan = record { n = n; half = n / 2; count = k; radices = rs }; merges = m .merges }) (acceptedPlan xs)
     unfolding acceptedPlan recordOf factors mergeAll
     answer-made m p n k rs q u v = rw (u, v, q, p, half-tally)
-
--- ---- the verdict on a record
-
-pub record-refused : (p : Record) → isPlanned p ≡ false → recordVerdict p ≡ Refused (NotPlanned 0)
-unfolding recordVerdict
-record-refused p e = rw e
-
-pub record-accepted : (p : Record) → isPlanned p ≡ true → recordVerdict p ≡ Accepted
-unfolding recordVerdict
-record-accepted p e = rw e

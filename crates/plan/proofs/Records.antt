@@ -1,57 +1,28 @@
 -- Laws of plan records: what an accepted list is, that the record depends on n alone, and which records planning gives. Assumes nothing.
 use Prim.Native.Nat.{ℕ, zero, suc, _+_, _-_, _*_, _/_, _%_, _<_, _≤_}
-use native.Mathlib.Nat.{one-mul, le-antisymm, lt-of-not-le}
+use native.Mathlib.Nat.{one-mul}
 use native.Mathlib.Numerals.{add-one}
-use native.Mathlib.Decide.{decLe}
 use native.Mathlib.Omega.{arith}
 use mathlib.Core.Path.{_≡_, refl, sym, ap, _∙_}
-use mathlib.Core.Logic.{dite}
-use mathlib.Core.Bool.{Bool, true, false, cond, not, _&&_, false≢true}
+use mathlib.Core.Bool.{Bool, true, false, _&&_, false≢true}
 use mathlib.Core.List.{List, [], _∷_}
-use lib.Dec.{eqb, ltb}
+use lib.Dec.{eqb}
 use lib.ListN.{length, getD, take, drop, drop-of-length-le, replicate, length-take}
 use lib.Seq.{take-at, drop-cons}
 use borrow.Author.Tests.{eqb-true, eq-eqb, ne-eqb, lt-ltb, le-leb, lt-leb, leb-true}
 use Rattle.refusal.proofs.Rows.{deciding, accepted}
 use Rattle.refusal.specs.declared.Verdict.the-variants.{Accepted}
-use Rattle.plan.specs.Lists.{product, isRadix, firstThat, indexOf, firstBad, firstOver, largest, padded, eqList, runningProduct}
-use Rattle.plan.specs.Half.{half, halving, halved}
-use Rattle.plan.specs.Merging.{tally, total, merged, sorted}
+use Rattle.radices.specs.Lists.{product, isRadix, firstThat, indexOf, firstBad, firstOver, largest, padded, eqList}
+use Rattle.merging.specs.Half.{half, halving, halved}
+use Rattle.merging.specs.Merging.{tally, total, merged, sorted}
 use Rattle.plan.specs.Record.{planVerdict, factors, recordOf, Plannable, inOrder, sized, isPlanned}
 use Rattle.plan.specs.declared.Record.{Record}
-use Rattle.plan.specs.declared.inner.lists.Running.{Running}
-use Rattle.plan.specs.declared.inner.merging.Tally.{Tally}
-use Rattle.plan.proofs.Lists.{running-all, running-place, length-padded}
-use Rattle.plan.proofs.Merging.{and-false, low, Keeps, length-sorted, merged-leaves, closed, none-at, merged-stop}
-use Rattle.plan.proofs.Products.{Radical, radical, radical-none-bad, radical-sorted, over-none-small, small-over-none, entries-few, weight, product-sorted, product-tally, tally-sorted, total-few, weight-tells}
-use Rattle.plan.proofs.Half.{Halved, half-halves}
-
--- ---- what an accepted list is
-
-first-most : (p : ℕ → Bool) (xs : List ℕ) → firstThat p xs ≤ length xs
-unfolding firstThat
-first-most p [] = omega arith
-first-most p (b ∷ bs) = go (p b) (first-most p bs)
-  where
-    go : (t : Bool) → firstThat p bs ≤ length bs → cond t 0 (suc (firstThat p bs)) ≤ suc (length bs)
-    go true h = omega arith
-    go false h = omega arith
-
-over-most : (p : ℕ) (xs : List ℕ) → firstOver p xs ≤ length xs
-unfolding firstOver
-over-most p [] = omega arith
-over-most p (b ∷ bs) = go (ltb largest (p * b)) (over-most (p * b) bs)
-  where
-    go : (t : Bool) → firstOver (p * b) bs ≤ length bs → cond t 0 (suc (firstOver (p * b) bs)) ≤ suc (length bs)
-    go true h = omega arith
-    go false h = omega arith
-
-pub bad-none : (xs : List ℕ) → length xs ≤ firstBad xs → firstBad xs ≡ length xs
-unfolding firstBad
-bad-none xs h = le-antisymm (first-most (λ (b : ℕ). not (isRadix b)) xs) h
-
-pub over-none-at : (xs : List ℕ) → length xs ≤ firstOver 1 xs → firstOver 1 xs ≡ length xs
-over-none-at xs h = le-antisymm (over-most 1 xs) h
+use Rattle.merging.specs.declared.inner.merging.Tally.{Tally}
+use Rattle.radices.proofs.Lists.{length-padded}
+use Rattle.merging.proofs.Merging.{and-false, low, Keeps, length-sorted, merged-leaves, closed, none-at, merged-stop}
+use Rattle.radices.proofs.Products.{Radical, radical, radical-none-bad, over-none-small, small-over-none, entries-few, bad-none, over-large, over-none-at}
+use Rattle.merging.proofs.Weights.{radical-sorted, weight, product-sorted, product-tally, tally-sorted, total-few, weight-tells}
+use Rattle.merging.proofs.Half.{Halved, half-halves}
 
 -- radices only, at most the largest length, not empty, even
 pub record Good (xs : List ℕ) : Type 0 where
@@ -304,24 +275,9 @@ module _ (a b : List ℕ) (i : ℕ) (e : eqList a b ≡ eqList (drop i a) (drop 
   unfolding eqList
   same-end p q = sym (e ∙ rw (drop-of-length-le a p, drop-of-length-le b q))
 
--- a running product that ends early is too large
-pub over-large : (xs : List ℕ) → Radical xs → firstOver 1 xs < length xs → largest < product xs
-over-large xs r h =
-    dite (decLe (product xs) largest)
-    (λ (p : product xs ≤ largest). absurd (omega (arith, small-over-none 1 xs r (rw one-mul p))))
-    (λ (n : product xs ≤ largest → ⊥). lt-of-not-le n)
-
 -- the product that `running_product` finds is not half, or it is
 pub made-not : (xs : List ℕ) (half : ℕ) → firstBad xs ≡ length xs → half ≤ 4096 → firstOver 1 xs < length xs → false ≡ eqb (product xs) half
 made-not xs half b h l = sym (ne-eqb (product xs) half (λ (e : product xs ≡ half). omega (arith, over-large xs (radical xs b) l)))
-
--- what `running_product` answers, at its end or before
-pub running-early : (xs : List ℕ) (r : Running) → r ≡ runningProduct xs → r .at ≡ firstOver 1 xs
-running-early xs r e = ap (λ (x : Running). x .at) e ∙ running-place xs
-
-pub running-through : (xs : List ℕ) (r : Running) → r ≡ runningProduct xs → length xs ≤ r .at → r .product ≡ product xs
-running-through xs r e h =
-    ap (λ (x : Running). x .product) (e ∙ running-all xs (over-none-at xs (omega (arith, running-early xs r e))))
 
 -- ---- the test of the radices, as the code makes it
 

@@ -4,25 +4,19 @@ use Prim.Native.Nat.{ℕ, zero, suc, _+_, _*_, _/_, _%_, _^_, _<_, _≤_}
 use native.Mathlib.Omega.{arith}
 use mathlib.Core.Path.{_≡_, refl, sym, ap, _∙_}
 use mathlib.Core.Logic.{_⊎_}
-use mathlib.Core.Bool.{Bool, true, false, cond}
+use mathlib.Core.Bool.{true, cond}
 use mathlib.Core.List.{List}
 use lib.Dec.{eqb}
-use Rattle.refusal.specs.declared.Verdict.the-variants.{Accepted, Refused}
-use Rattle.refusal.specs.declared.Refusal.the-variants.{NotPlanned}
-use Rattle.plan.specs.declared.Record.{Record}
-use Rattle.plan.specs.Counts.{recordVerdict}
-use Rattle.plan.specs.Lists.{product, countOf}
-use Rattle.plan.specs.Half.{half}
-use Rattle.plan.specs.Merging.{tally, applies, merge, sorted}
-use Rattle.plan.specs.Scaling.{gain}
-use Rattle.plan.specs.declared.inner.merging.Tally.{Tally}
-use Rattle.plan.specs.declared.inner.merging.Rule.{Rule}
-use Rattle.plan.proofs.Scaling.{gain-reaches, gain-least}
-use Rattle.plan.specs.Record.{planVerdict, factors, mergesOf, recordOf, Plannable, isPlanned}
-use Rattle.plan.proofs.Merging.{exponent, applied-keeps, merged-leaves, merged-closed, merges-few}
-use Rattle.plan.proofs.Products.{tally-sorted, product-sorted, product-tally, exponent-is}
-use Rattle.plan.proofs.Records.{accepted-good, good-halved, merged-product, weight-keeps, stages, record-by-n, passes-plannable, plannable-passes}
-use Rattle.plan.proofs.Planning.{record-refused, record-accepted}
+use Rattle.refusal.specs.declared.Verdict.the-variants.{Accepted}
+use Rattle.radices.specs.Lists.{product, countOf}
+use Rattle.merging.specs.Half.{half}
+use Rattle.merging.specs.Merging.{tally, applies, merge, sorted}
+use Rattle.merging.specs.declared.inner.merging.Tally.{Tally}
+use Rattle.merging.specs.declared.inner.merging.Rule.{Rule}
+use Rattle.plan.specs.Record.{planVerdict, factors, mergesOf, recordOf}
+use Rattle.merging.proofs.Merging.{exponent, applied-keeps, merged-leaves, merged-closed, merges-few}
+use Rattle.merging.proofs.Weights.{tally-sorted, product-sorted, product-tally, exponent-is}
+use Rattle.plan.proofs.Records.{accepted-good, good-halved, merged-product, weight-keeps, stages, record-by-n}
 
 -- at most one of a and b, and a + 2b known
 low-is : (a b n : ℕ) → a + b ≤ 1 → a + 2 * b ≡ n → (a ≡ cond (eqb n 1) 1 0) × (b ≡ cond (eqb n 2) 1 0)
@@ -101,18 +95,3 @@ module _ (xs : List ℕ) (accepted : planVerdict xs ≡ Accepted) where
 -- the record depends on n alone
 pub record-depends-on-n : (xs ys : List ℕ) → planVerdict xs ≡ Accepted → planVerdict ys ≡ Accepted → product xs ≡ product ys → recordOf xs ≡ recordOf ys
 record-depends-on-n xs ys p q e = record-by-n xs ys (accepted-good xs p) (accepted-good ys q) e
-
--- refusal 5 is given exactly to the records that no list plans to
-pub refusal-five : (p : Record) → (Plannable p → recordVerdict p ≡ Accepted) × ((Plannable p → ⊥) → recordVerdict p ≡ Refused (NotPlanned 0))
-refusal-five p = (λ (e : Plannable p). record-accepted p (plannable-passes p e), λ (n : Plannable p → ⊥). record-refused p (fails (isPlanned p) refl n))
-  where
-    fails : (b : Bool) → isPlanned p ≡ b → (Plannable p → ⊥) → isPlanned p ≡ false
-    fails true e n = absurd (n (passes-plannable p e))
-    fails false e n = e
-
--- scaling by the smallest power of two that reaches the target
-pub scaling-reaches : (target base : ℕ) → 0 < base → target ≤ 2 ^ gain target base * base
-scaling-reaches = gain-reaches
-
-pub scaling-least : (target base j : ℕ) → j < gain target base → 2 ^ j * base < target
-scaling-least = gain-least

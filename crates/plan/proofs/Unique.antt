@@ -8,18 +8,12 @@ use Rattle.refusal.proofs.Unique.{agree}
 use Rattle.refusal.specs.declared.Refusal.{Refusal}
 use Rattle.refusal.specs.declared.Refusal.the-variants.{NoRadix}
 use Rattle.refusal.specs.declared.Verdict.the-variants.{Accepted, Refused}
-use Rattle.plan.specs.declared.Buffer.{Buffer}
 use Rattle.plan.specs.declared.Record.{Record}
 use Rattle.plan.specs.declared.Planned.{Planned}
-use Rattle.plan.specs.declared.Counted.{Counted}
-use Rattle.plan.specs.declared.Located.{Located}
-use Rattle.plan.specs.declared.Scaled.{Scaled}
-use Rattle.plan.specs.Lists.{isRadix, product, firstThat, firstBad, indexOf, firstOver, countOf}
-use Rattle.plan.specs.Half.{halving, halved, half}
-use Rattle.plan.specs.Merging.{tally, applies, firstRule, rulesUpTo, rules, letters, marked}
+use Rattle.radices.specs.Lists.{isRadix, product, firstThat, firstBad, indexOf, firstOver, countOf}
+use Rattle.merging.specs.Half.{halving, halved, half}
+use Rattle.merging.specs.Merging.{tally, applies, firstRule, rulesUpTo, rules, letters, marked}
 use Rattle.plan.specs.Record.{planVerdict, recordOf, refusedPlan, acceptedPlan, planned, Plans, Accepts}
-use Rattle.plan.specs.Counts.{NumbersBuffer, CountsStage, CountsEnd, Locates}
-use Rattle.plan.specs.Scaling.{Scales}
 
 pub Plans-one : {list : List ℕ} {r s : Planned} → Plans list r → Plans list s → r ≡ s
 Plans-one p q = agree (p .answer) (q .answer)
@@ -31,21 +25,6 @@ Accepts-one {p} {r} {s} a b = go r s (λ e. b .answer .1 (a .answer .0 e)) (λ e
     go true s f g = sym (f refl)
     go false true f g = g refl
     go false false f g = refl
-
-pub NumbersBuffer-one : {b : Buffer} {r s : ℕ} → NumbersBuffer b r → NumbersBuffer b s → r ≡ s
-NumbersBuffer-one p q = agree (p .answer) (q .answer)
-
-pub CountsStage-one : {p : Record} {r s : Counted} → CountsStage p r → CountsStage p s → r ≡ s
-CountsStage-one p q = agree (p .answer) (q .answer)
-
-pub CountsEnd-one : {p : Record} {r s : Counted} → CountsEnd p r → CountsEnd p s → r ≡ s
-CountsEnd-one p q = agree (p .answer) (q .answer)
-
-pub Locates-one : {p : Record} {r s : Located} → Locates p r → Locates p s → r ≡ s
-Locates-one p q = agree (p .answer) (q .answer)
-
-pub Scales-one : {ins outs : List ℕ} {r s : Scaled} → Scales ins outs r → Scales ins outs s → r ≡ s
-Scales-one p q = agree (p .answer) (q .answer)
 
 -- ---- wrong programs
 

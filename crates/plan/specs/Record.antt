@@ -12,11 +12,11 @@ use Rattle.refusal.specs.declared.Refusal.the-variants.{Empty, NoRadix, TooLarg
 use Rattle.refusal.specs.declared.Verdict.{Verdict}
 use Rattle.refusal.specs.declared.Verdict.the-variants.{Accepted, Refused}
 use Rattle.plan.specs.declared.Record.{Record}
-use Rattle.plan.specs.declared.Merges.{Merges}
+use Rattle.merging.specs.declared.Merges.{Merges}
 use Rattle.plan.specs.declared.Planned.{Planned}
-use Rattle.plan.specs.Lists.{product, firstBad, firstOver, largest, padded, eqList}
-use Rattle.plan.specs.Half.{half}
-use Rattle.plan.specs.Merging.{tally, total, rules, merged, letters, marked, sorted}
+use Rattle.radices.specs.Lists.{product, firstBad, firstOver, largest, padded, eqList}
+use Rattle.merging.specs.Half.{half}
+use Rattle.merging.specs.Merging.{tally, total, rules, merged, letters, marked, sorted}
 
 -- refusals 1, 2, 3 and 4, in this order
 unfoldable pub planVerdict : List ℕ → Verdict

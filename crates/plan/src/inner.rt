@@ -1,7 +1,2 @@
-// What other crates call under a proof, and the parts of planning.
-pub mod halving;
-pub mod lists;
-pub mod merging;
+// What other crates call under a proof.
 pub mod records;
-pub mod scaling;
-pub mod stages;

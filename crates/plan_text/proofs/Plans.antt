@@ -12,13 +12,13 @@ use Rattle.refusal.specs.Refusal.{verdict}
 use Rattle.refusal.specs.declared.Verdict.{Verdict}
 use Rattle.refusal.specs.declared.Verdict.the-variants.{Accepted, Refused}
 use Rattle.plan.specs.Record.{planVerdict, planned, plannedBy, acceptedPlan, refusedPlan, inOrder, sized, isPlanned}
-use Rattle.plan.specs.Counts.{recordVerdict, counted, located}
+use Rattle.counts.specs.Counts.{recordVerdict, counted, located}
 use Rattle.plan.specs.declared.Record.{Record}
-use Rattle.plan.specs.declared.Buffer.{Buffer}
-use Rattle.plan.specs.declared.Counted.{Counted}
-use Rattle.plan.specs.declared.Located.{Located}
+use Rattle.counts.specs.declared.Buffer.{Buffer}
+use Rattle.counts.specs.declared.Counted.{Counted}
+use Rattle.counts.specs.declared.Located.{Located}
 use Rattle.plan.specs.declared.Planned.{Planned}
-use Rattle.plan.proofs.Planning.{record-accepted}
+use Rattle.counts.proofs.Counts.{record-accepted}
 use Rattle.plan.proofs.Records.{accepted-good, in-order, planned-passes}
 use Rattle.plan_text.specs.Tokens.{radices, firstRead}
 use Rattle.plan_text.specs.Report.{linesOf, reportOf, textOf, Reports}

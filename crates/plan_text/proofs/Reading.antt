@@ -9,7 +9,7 @@ use lib.Dec.{eqb, lit<}
 use lib.ListN.{length, getD, take, drop, set, length-set}
 use lib.Seq.{take-suc-set, drop-cons}
 use borrow.Author.Tests.{ne-eqb}
-use Rattle.plan.specs.Lists.{isRadix}
+use Rattle.radices.specs.Lists.{isRadix}
 use Rattle.plan_text.specs.Tokens.{isBlank, ended, tokensFrom, tokens, digitValue, radixOf, radices}
 use Rattle.plan_text.specs.Reading.{grown, size, room, pushed, endedBy, endedToken, stepBy, stepped}
 use Rattle.plan_text.specs.declared.inner.tokens.Token.{Token}

@@ -5,11 +5,11 @@ use mathlib.Core.Path.{_≡_, refl, sym, ap, _∙_}
 use mathlib.Core.List.{List, []}
 use lib.ListN.{length, take, replicate, length-append}
 use lib.Seq.{take-append-seam}
-use Rattle.plan.specs.Lists.{isRadix, product, firstThat, firstBad, firstOver, indexOf, countOf, padded}
-use Rattle.plan.specs.Half.{halving, halved, half}
-use Rattle.plan.specs.Merging.{tally, applies, merge, firstRule, rulesUpTo, rules, mergedBy, merged, letters, sorted, marked}
+use Rattle.radices.specs.Lists.{isRadix, product, firstThat, firstBad, firstOver, indexOf, countOf, padded}
+use Rattle.merging.specs.Half.{halving, halved, half}
+use Rattle.merging.specs.Merging.{tally, applies, merge, firstRule, rulesUpTo, rules, mergedBy, merged, letters, sorted, marked}
 use Rattle.plan.specs.Record.{planVerdict, factors, recordOf, refusedPlan, acceptedPlan, planned}
-use Rattle.plan.specs.Counts.{radix, twiddleCount, twiddleStart, endCount, resultIn}
+use Rattle.counts.specs.Counts.{radix, twiddleCount, twiddleStart, endCount, resultIn}
 use Rattle.plan_text.specs.Tokens.{isBlank, tokensFrom, tokens, digitValue, radixOf, radices}
 use Rattle.plan_text.specs.Lines.{ascii, lastDigits, decimal}
 use Rattle.plan_text.specs.Report.{factorWords, planLines, refusalLine, reportOf, Reports}

@@ -8,12 +8,12 @@ use Rattle.refusal.specs.declared.Refusal.{Refusal}
 use Rattle.refusal.specs.declared.Verdict.{Verdict}
 use Rattle.refusal.specs.declared.Verdict.the-variants.{Accepted, Refused}
 use Rattle.plan.specs.Record.{planned}
-use Rattle.plan.specs.Counts.{stageTwiddles, endCount, resultIn}
+use Rattle.counts.specs.Counts.{stageTwiddles, endCount, resultIn}
 use Rattle.plan.specs.declared.Record.{Record}
-use Rattle.plan.specs.declared.Merges.{Merges}
+use Rattle.merging.specs.declared.Merges.{Merges}
 use Rattle.plan.specs.declared.Planned.{Planned}
-use Rattle.plan.specs.declared.Buffer.{Buffer}
-use Rattle.plan.specs.declared.Buffer.the-variants.{Data, Scratchpad}
+use Rattle.counts.specs.declared.Buffer.{Buffer}
+use Rattle.counts.specs.declared.Buffer.the-variants.{Data, Scratchpad}
 use Rattle.plan_text.specs.Tokens.{radices, firstRead}
 use Rattle.plan_text.specs.Lines.{ascii, decimal, line}
 use Rattle.plan_text.specs.declared.Text.{Text}

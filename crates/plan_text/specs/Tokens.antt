@@ -4,7 +4,7 @@ use mathlib.Core.Bool.{Bool, cond, _||_}
 use mathlib.Core.List.{List, [], _∷_, _++_, map}
 use lib.Dec.{eqb}
 use lib.ListN.{take}
-use Rattle.plan.specs.Lists.{isRadix}
+use Rattle.radices.specs.Lists.{isRadix}
 
 -- the bytes that part tokens: blank, tab, line feed and carriage return
 unfoldable pub isBlank : ℕ → Bool

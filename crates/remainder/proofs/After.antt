@@ -5,10 +5,10 @@ use native.Mathlib.Omega.{arith}
 use mathlib.Core.Path.{_≡_, sym, ap, subst, _∙_}
 use mathlib.Core.List.{List}
 use lib.ListN.{length, drop}
-use Rattle.plan.specs.Counts.{radix, stride}
-use Rattle.plan.specs.Lists.{product}
+use Rattle.counts.specs.Counts.{radix, stride}
+use Rattle.radices.specs.Lists.{product}
 use Rattle.plan.specs.declared.Record.{Record}
-use Rattle.plan.proofs.Counts.{plan-half}
+use Rattle.plan.proofs.Bounds.{plan-half}
 use Rattle.schedule.specs.Plans.{inUse}
 use Rattle.schedule.specs.Stage.{plain, stage, run}
 use Rattle.schedule.proofs.Cells.{pos-right, length-stage}

@@ -6,8 +6,8 @@ use mathlib.Core.Bool.{true}
 use mathlib.Core.List.{List}
 use mathlib.Core.Logic.{inl, inr}
 use lib.ListN.{length}
-use Rattle.plan.specs.Lists.{isRadix}
-use Rattle.plan.proofs.Products.{Radix, radix-is, radix-least}
+use Rattle.radices.specs.Lists.{isRadix}
+use Rattle.radices.proofs.Products.{Radix, radix-is, radix-least}
 use Rattle.remainder.specs.Residues.{Under}
 use Rattle.remainder.specs.Rows.{rowOf, twiddledRow, storeFrom, stored, Modulus, Storable, Ready}
 use Rattle.remainder.proofs.Rows.{row-under, twiddled-under, store-on, store-all}

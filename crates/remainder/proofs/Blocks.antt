@@ -7,8 +7,8 @@ use native.Mathlib.Nat.{zero-add, add-zero, zero-mul, one-mul, mul-zero, mul-one
 use native.Mathlib.Omega.{arith}
 use lib.Arith.{digits-lt, lt-one}
 use lib.ListN.{length, drop}
-use Rattle.plan.specs.Lists.{product}
-use Rattle.plan.specs.Counts.{stride, radix}
+use Rattle.radices.specs.Lists.{product}
+use Rattle.counts.specs.Counts.{stride, radix}
 use Rattle.schedule.specs.Stage.{stageBy, stage, run}
 use Rattle.schedule.proofs.Cells.{getD-tabulate}
 use Rattle.schedule.proofs.Strides.{stride-suc, stride-length, stage-parts}

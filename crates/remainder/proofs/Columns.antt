@@ -5,10 +5,10 @@ use native.Mathlib.Omega.{arith}
 use mathlib.Core.Path.{_≡_, sym, ap, _∙_}
 use mathlib.Core.List.{List, [], _∷_}
 use lib.ListN.{length, getD}
-use Rattle.plan.specs.Counts.{radix, stride}
+use Rattle.counts.specs.Counts.{radix, stride}
 use Rattle.plan.specs.declared.Record.{Record}
-use Rattle.plan.specs.Lists.{isRadix}
-use Rattle.plan.proofs.Counts.{plan-half, plan-radix}
+use Rattle.radices.specs.Lists.{isRadix}
+use Rattle.plan.proofs.Bounds.{plan-half, plan-radix}
 use Rattle.schedule.specs.Plans.{inUse}
 use Rattle.schedule.specs.Stage.{plain, output, putColumns, stage}
 use Rattle.schedule.proofs.Cells.{by-radix, by-both}

@@ -9,7 +9,7 @@ use lib.ListN.{getD}
 use lib.Arith.{digits-mod}
 use lib.Pow.{pow-add}
 use borrow.Author.Tests.{lt-ltb, le-ltb}
-use Rattle.plan.specs.Counts.{radix, stride}
+use Rattle.counts.specs.Counts.{radix, stride}
 use Rattle.schedule.specs.Stage.{twiddleTurn, kernelTurn, read, total, plain, output, putOutputs, putColumn}
 use Rattle.schedule.proofs.Cells.{index-block}
 use Rattle.remainder.specs.Residues.{turn, residues, cells}

@@ -7,7 +7,7 @@ use mathlib.Core.List.{List}
 use lib.Dec.{eqb}
 use lib.ListN.{length}
 use borrow.Author.Tests.{eq-eqb, ne-eqb, eqb-true}
-use Rattle.plan.specs.Counts.{radix, stride, resultIn}
+use Rattle.counts.specs.Counts.{radix, stride, resultIn}
 use Rattle.plan.specs.Record.{isPlanned}
 use Rattle.plan.specs.declared.Record.{Record}
 use Rattle.refusal.specs.declared.Refusal.the-variants.{NotPlanned}

@@ -6,7 +6,7 @@ use mathlib.Core.Path.{_≡_}
 use mathlib.Core.List.{List}
 use lib.ListN.{length}
 use lib.Arith.{digits-lt}
-use Rattle.plan.proofs.Products.{radix-least}
+use Rattle.radices.proofs.Products.{radix-least}
 use Rattle.remainder.specs.Residues.{Under}
 use Rattle.remainder.specs.Rows.{Modulus, Shape, Ready}
 

@@ -6,9 +6,9 @@ use mathlib.Core.Bool.{true}
 use mathlib.Core.List.{List, [], _∷_}
 use lib.ListN.{length}
 use Rattle.refusal.specs.declared.Verdict.{Verdict}
-use Rattle.plan.specs.Counts.{stride, resultIn}
-use Rattle.plan.specs.Lists.{product, padded, eqList, countOf}
-use Rattle.plan.specs.Merging.{tally, sorted}
+use Rattle.counts.specs.Counts.{stride, resultIn}
+use Rattle.radices.specs.Lists.{product, padded, eqList, countOf}
+use Rattle.merging.specs.Merging.{tally, sorted}
 use Rattle.plan.specs.Record.{isPlanned, inOrder, sized}
 use Rattle.plan.specs.declared.Record.{Record}
 use Rattle.schedule.specs.Plans.{inUse}

@@ -7,7 +7,7 @@ use native.Mathlib.Nat.{add-mod, mod-mod, zero-mod, zero-add, add-zero, zero-mul
 use native.Mathlib.Omega.{arith}
 use lib.Arith.{digits-mod, digits-lt}
 use lib.Pow.{pow-add}
-use Rattle.plan.specs.Counts.{radix, stride}
+use Rattle.counts.specs.Counts.{radix, stride}
 use Rattle.schedule.specs.Stage.{Part, twiddleTurn, kernelTurn, twiddledIn, read, total, plain, output, iteration, place}
 use Rattle.remainder.specs.Residues.{turn, residues, sum, blockSum, Blocks}
 use Rattle.remainder.proofs.Sums.{mod-mul, mul-congruent, pow-circles, sum-congruent, sum-mul, sum-digits}

@@ -11,7 +11,7 @@ use lib.ListN.{length}
 use Rattle.refusal.specs.declared.Verdict.{Verdict}
 use Rattle.refusal.specs.declared.Verdict.the-variants.{Accepted}
 use Rattle.refusal.proofs.Rows.{settled}
-use Rattle.plan.specs.Counts.{stride, resultIn}
+use Rattle.counts.specs.Counts.{stride, resultIn}
 use Rattle.plan.specs.declared.Record.{Record}
 use Rattle.schedule.specs.Buffers.{Two, across, alternated, copiedBy, driven, heldIn}
 use Rattle.schedule.specs.Plans.{inUse}

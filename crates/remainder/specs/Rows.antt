@@ -5,7 +5,7 @@ use mathlib.Core.Bool.{true, cond}
 use mathlib.Core.List.{List, [], _∷_}
 use lib.Dec.{ltb}
 use lib.ListN.{length, getD, set}
-use Rattle.plan.specs.Lists.{isRadix}
+use Rattle.radices.specs.Lists.{isRadix}
 use Rattle.remainder.specs.Residues.{Under}
 
 -- f 0 to f 7

@@ -1,7 +1,7 @@
 // A planning record: the lent list, and every field of its answer.
-use plan::Merges;
-use plan::Radices;
+use merging::Merges;
 use plan::Record;
+use radices::Radices;
 use records::inner::text::holds;
 use records::inner::text::lent;
 use records::inner::text::shows;
@@ -39,7 +39,7 @@ fn half_of(verdict: Verdict, list: &[u8]) -> Radices {
             entries: [0u8; 13],
         };
     }
-    plan::inner::halving::half_list(list)
+    merging::inner::halving::half_list(list)
 }
 
 // The refusal's number and place.
@@ -80,9 +80,9 @@ fn shows_half(line: &[u8], half: Radices) -> bool
 fn shows_counts(line: &[u8], plan: Record, verdict: Verdict) -> bool
     requires { ⌜ length (now line) ≡ 97 ⌝ }
 {
-    let stage = plan::stage_twiddles(plan);
-    let end = plan::end_twiddles(plan);
-    let result = plan::result(plan);
+    let stage = counts::stage_twiddles(plan);
+    let end = counts::end_twiddles(plan);
+    let result = counts::result(plan);
     let of_stage = stage.verdict;
     let of_end = end.verdict;
     let of_result = result.verdict;

@@ -1,10 +1,10 @@
 // A scaling record: both base lists, and every field of their answer.
-use plan::Radices;
-use plan::Scaled;
+use radices::Radices;
 use records::inner::text::holds;
 use records::inner::text::lent;
 use records::inner::text::shows;
 use refusal::Verdict;
+use scaling::Scaled;
 ghost use mathlib.Core.Path.{_≡_};
 ghost use lib.ListN.{length};
 
@@ -19,7 +19,7 @@ pub fn agrees(line: &[u8]) -> bool {
     let in_bytes = ins.bytes;
     let out_count = outs.count;
     let out_bytes = outs.bytes;
-    let answer = plan::scale(&in_bytes[..in_count], &out_bytes[..out_count]);
+    let answer = scaling::scale(&in_bytes[..in_count], &out_bytes[..out_count]);
     let verdict = answer.verdict;
     let in_list = answer.in_list;
     let out_list = answer.out_list;

@@ -19,8 +19,8 @@ pub struct Question {
 // What the column of a list asks in a direction.
 pub fn asked(column: &[u8], is_forward: bool) -> Question {
     let plan = planned(column);
-    let stage = plan::stage_twiddles(plan);
-    let end = plan::end_twiddles(plan);
+    let stage = counts::stage_twiddles(plan);
+    let end = counts::end_twiddles(plan);
     let samples = few(plan.n);
     let bins = 2 * few(plan.half) + 2;
     let stages = 2 * few(stage.count);

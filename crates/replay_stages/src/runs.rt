@@ -55,7 +55,7 @@ fn copy_back(plan: Record, first: &mut [f32], second: &[f32]) {
 fn shows_run(line: &[u8], plan: Record, first: &[f32], second: &[f32]) -> bool
     requires { ⌜ length (now line) ≡ 52 ⌝ }
 {
-    let located = plan::result(plan);
+    let located = counts::result(plan);
     let verdict = located.verdict;
     let buffer = located.buffer;
     line[51] == b'\n'

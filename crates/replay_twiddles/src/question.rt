@@ -25,8 +25,8 @@ pub fn asked(columns: &[u8]) -> Question
     let answer = plan::plan(&bytes[..count]);
     let verdict = answer.verdict;
     let plan = answer.plan;
-    let stage = plan::stage_twiddles(plan);
-    let end = plan::end_twiddles(plan);
+    let stage = counts::stage_twiddles(plan);
+    let end = counts::end_twiddles(plan);
     Question {
         plan,
         is_planned: verdict.number() == 0,

@@ -1,7 +1,7 @@
 -- Laws of two buffers written alternately: where the last stage's cells are. Assumes nothing.
 use mathlib.Core.Path.{_≡_, refl, sym, ap, _∙_}
 use mathlib.Core.Bool.{Bool, true, false, not, _||_}
-use Rattle.plan.specs.Counts.{bufferBy}
+use Rattle.counts.specs.Counts.{bufferBy}
 use mathlib.Core.List.{List}
 use Prim.Native.Nat.{ℕ, zero, suc, _+_, _%_, _<_, _≤_}
 use native.Mathlib.Numerals.{add-one}

@@ -7,10 +7,11 @@ use native.Mathlib.Omega.{arith}
 use lib.ListN.{length, getD, drop}
 use lib.Seq.{getD-take, take-take, length-take-le}
 use Rattle.plan.specs.declared.Record.{Record}
-use Rattle.plan.specs.Lists.{product}
+use Rattle.radices.specs.Lists.{product}
 use Rattle.plan.specs.Record.{isPlanned}
-use Rattle.plan.specs.Counts.{radix, stride}
-use Rattle.plan.proofs.Counts.{getD-any, plan-sized, plan-half, plan-long, plan-radix-bounds}
+use Rattle.counts.specs.Counts.{radix, stride}
+use Rattle.radices.proofs.Lists.{getD-any}
+use Rattle.plan.proofs.Bounds.{plan-sized, plan-half, plan-long, plan-radix-bounds}
 use Rattle.schedule.specs.Plans.{inUse}
 use Rattle.schedule.proofs.Cells.{pos-left, pos-right, by-radix}
 use Rattle.schedule.proofs.Strides.{stage-parts}

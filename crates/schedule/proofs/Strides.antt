@@ -6,8 +6,8 @@ use native.Mathlib.Nat.{one-mul, mul-one, mul-assoc, le-of-suc-le-suc, not-suc-l
 use native.Mathlib.Omega.{arith}
 use lib.ListN.{length, drop}
 use lib.Seq.{take-length}
-use Rattle.plan.specs.Lists.{product}
-use Rattle.plan.specs.Counts.{radix, stride}
+use Rattle.radices.specs.Lists.{product}
+use Rattle.counts.specs.Counts.{radix, stride}
 
 pub stride-suc : (rs : List ℕ) (j : ℕ) → j < length rs → stride rs (suc j) ≡ stride rs j * radix rs j
 unfolding stride radix product

@@ -3,8 +3,8 @@ use Prim.Native.Nat.{ℕ, zero, suc, _%_}
 use mathlib.Core.Bool.{Bool, true, false}
 use mathlib.Core.List.{List}
 use lib.Dec.{eqb}
-use Rattle.plan.specs.declared.Buffer.{Buffer}
-use Rattle.plan.specs.declared.Buffer.the-variants.{Data, Scratchpad}
+use Rattle.counts.specs.declared.Buffer.{Buffer}
+use Rattle.counts.specs.declared.Buffer.the-variants.{Data, Scratchpad}
 
 -- Data, then Scratchpad
 abbrev pub Two : Type 0 → Type 0

@@ -4,7 +4,7 @@
 use Prim.Native.Nat.{ℕ, zero, suc, _+_, _-_, _*_, _/_, _%_}
 use mathlib.Core.List.{List, [], _∷_}
 use lib.ListN.{getD, set}
-use Rattle.plan.specs.Counts.{radix, stride}
+use Rattle.counts.specs.Counts.{radix, stride}
 
 -- ---- which turn stands where
 

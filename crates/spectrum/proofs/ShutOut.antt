@@ -10,9 +10,9 @@ use lib.ListN.{getD}
 use Rattle.refusal.specs.declared.Verdict.{Verdict}
 use Rattle.refusal.specs.declared.Verdict.the-variants.{Accepted}
 use Rattle.refusal.proofs.Rows.{settled}
-use Rattle.plan.specs.Counts.{twiddleStart, endCount, resultIn}
-use Rattle.plan.specs.Lists.{product, padded, eqList, countOf}
-use Rattle.plan.specs.Merging.{tally, sorted}
+use Rattle.counts.specs.Counts.{twiddleStart, endCount, resultIn}
+use Rattle.radices.specs.Lists.{product, padded, eqList, countOf}
+use Rattle.merging.specs.Merging.{tally, sorted}
 use Rattle.plan.specs.Record.{isPlanned, inOrder, sized}
 use Rattle.plan.specs.declared.Record.{Record}
 use Rattle.schedule.specs.Buffers.{alternated, driven}

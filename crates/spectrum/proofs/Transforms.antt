@@ -10,12 +10,12 @@ use lib.Ieee.{Float}
 use lib.ListN.{length, take, drop, length-append, length-drop}
 use lib.Seq.{length-take-le, take-at, drop-at, drop-drop, drop-append-le, take-append-le}
 use borrow.Author.Tests.{eqb-true, lt-ltb}
-use Rattle.plan.specs.Counts.{resultIn, bufferNumber, endCount}
+use Rattle.counts.specs.Counts.{resultIn, bufferNumber, endCount}
 use Rattle.plan.specs.Record.{isPlanned}
-use Rattle.plan.specs.declared.Buffer.{Buffer}
-use Rattle.plan.specs.declared.Buffer.the-variants.{Data, Scratchpad}
+use Rattle.counts.specs.declared.Buffer.{Buffer}
+use Rattle.counts.specs.declared.Buffer.the-variants.{Data, Scratchpad}
 use Rattle.plan.specs.declared.Record.{Record}
-use Rattle.plan.proofs.Counts.{plan-half, plan-sized}
+use Rattle.plan.proofs.Bounds.{plan-half, plan-sized}
 use Rattle.schedule.specs.Buffers.{Two, heldIn}
 use Rattle.stage.specs.Runs.{runOf}
 use Rattle.ends.specs.Ends.{ifftSteps, postprocess-fft, preprocess-ifft, conjugated, zeros}

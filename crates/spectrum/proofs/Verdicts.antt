@@ -12,7 +12,7 @@ use borrow.Author.Tests.{ltb-false, eqb-true, eq-eqb, ne-eqb, not-true}
 use Rattle.refusal.specs.declared.Verdict.{Verdict}
 use Rattle.refusal.specs.declared.Verdict.the-variants.{Accepted}
 use Rattle.refusal.proofs.Rows.{accepted}
-use Rattle.plan.specs.Counts.{stageTwiddles, endCount}
+use Rattle.counts.specs.Counts.{stageTwiddles, endCount}
 use Rattle.plan.specs.Record.{isPlanned}
 use Rattle.plan.specs.declared.Record.{Record}
 use Rattle.twiddle.specs.Calls.{isWidth}

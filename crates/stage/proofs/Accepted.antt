@@ -11,10 +11,10 @@ use lib.Ieee.{Float}
 use lib.ListN.{length}
 use Rattle.refusal.proofs.Rows.{deciding}
 use Rattle.refusal.specs.declared.Verdict.the-variants.{Accepted}
-use Rattle.plan.specs.Counts.{radix, twiddleCount, twiddleStart, stageTwiddles}
+use Rattle.counts.specs.Counts.{radix, twiddleCount, twiddleStart, stageTwiddles}
 use Rattle.plan.specs.Record.{isPlanned}
 use Rattle.plan.specs.declared.Record.{Record}
-use Rattle.plan.proofs.Counts.{count-first}
+use Rattle.counts.proofs.Counts.{count-first}
 use Rattle.schedule.specs.Plans.{inUse}
 use Rattle.twiddle.specs.Calls.{isWidth}
 use Rattle.twiddle.specs.Places.{place, iterationAt, numberAt}

@@ -6,15 +6,14 @@ use mathlib.Core.List.{List}
 use lib.Ieee.{Float}
 use lib.ListN.{length, take, drop, length-drop}
 use lib.Seq.{length-take-le}
-use Rattle.plan.specs.Counts.{radix, stride, twiddleCount, twiddleStart, stageTwiddles}
+use Rattle.counts.specs.Counts.{radix, stride, twiddleCount, twiddleStart, stageTwiddles}
 use Rattle.plan.specs.declared.Record.{Record}
-use Rattle.plan.proofs.Counts.{start-next}
+use Rattle.counts.proofs.Counts.{start-next, start-up}
 use Rattle.schedule.specs.Buffers.{Two, alternated, driven}
 use Rattle.schedule.specs.Plans.{inUse}
 use Rattle.schedule.specs.Stage.{stage}
 use Rattle.schedule.proofs.Buffers.{even-next, odd-next, driven-copied, driven-kept, driven-none}
 use Rattle.schedule.proofs.Cells.{length-stage}
-use Rattle.twiddle.proofs.Counts.{start-up}
 use Rattle.floats.proofs.Flat.{length-flat}
 use Rattle.kernel.specs.Floats.{stageOf}
 use Rattle.kernel.specs.Parts.{Workable}

@@ -10,11 +10,11 @@ use lib.Ieee.{Float, nan}
 use lib.ListN.{length, getD, drop}
 use lib.Seq.{getD-take, getD-drop}
 use borrow.Author.Tests.{eqb-true}
-use Rattle.plan.specs.Counts.{radix, stride, twiddleCount, twiddleStart, resultIn}
-use Rattle.plan.specs.Lists.{product}
+use Rattle.counts.specs.Counts.{radix, stride, twiddleCount, twiddleStart, resultIn}
+use Rattle.radices.specs.Lists.{product}
 use Rattle.plan.specs.Record.{isPlanned}
 use Rattle.plan.specs.declared.Record.{Record}
-use Rattle.plan.proofs.Counts.{count-later}
+use Rattle.counts.proofs.Counts.{count-later}
 use Rattle.schedule.specs.Buffers.{Two, across, alternated, driven, heldIn}
 use Rattle.schedule.specs.Plans.{inUse}
 use Rattle.schedule.specs.Stage.{twiddleTurn, kernelTurn, total, iteration, place as placeOf, twiddledIn, read, plain, output, stageBy, stage, run}

@@ -13,7 +13,7 @@ use Rattle.refusal.specs.declared.Refusal.{Refusal}
 use Rattle.refusal.specs.declared.Verdict.{Verdict}
 use Rattle.refusal.specs.declared.Verdict.the-variants.{Accepted, Refused}
 use Rattle.refusal.proofs.Rows.{settled}
-use Rattle.plan.specs.Counts.{radix, resultIn}
+use Rattle.counts.specs.Counts.{radix, resultIn}
 use Rattle.plan.specs.declared.Record.{Record}
 use Rattle.schedule.specs.Buffers.{heldIn}
 use Rattle.schedule.specs.Plans.{inUse}

@@ -8,7 +8,7 @@ use lib.ListN.{length}
 use Rattle.refusal.specs.Refusal.{Row, _⇒_, verdict, Settles}
 use Rattle.refusal.specs.declared.Refusal.the-variants.{NotPlanned, Width, Length, Number, Twiddle, Stage}
 use Rattle.refusal.specs.declared.Verdict.{Verdict}
-use Rattle.plan.specs.Counts.{twiddleCount}
+use Rattle.counts.specs.Counts.{twiddleCount}
 use Rattle.plan.specs.Record.{isPlanned}
 use Rattle.plan.specs.declared.Record.{Record}
 use Rattle.twiddle.specs.Calls.{isWidth}

@@ -5,7 +5,7 @@ use mathlib.Core.Bool.{true}
 use mathlib.Core.List.{List}
 use lib.Ieee.{Float}
 use lib.ListN.{take, drop}
-use Rattle.plan.specs.Counts.{radix, stride, twiddleCount, twiddleStart, stageTwiddles}
+use Rattle.counts.specs.Counts.{radix, stride, twiddleCount, twiddleStart, stageTwiddles}
 use Rattle.plan.specs.Record.{isPlanned}
 use Rattle.plan.specs.declared.Record.{Record}
 use Rattle.schedule.specs.Buffers.{Two, driven}

@@ -10,7 +10,7 @@ use lib.Dec.{T, eqb, eqb→eq}
 use lib.Ieee.{round, ofBits, neg}
 use lib.Ieee.Fits.{and-l, and-r}
 use borrow.Author.Tests.{eq-eqb}
-use Rattle.plan.proofs.Products.{Radix, radix-is, radix-least}
+use Rattle.radices.proofs.Products.{Radix, radix-is, radix-least}
 use Rattle.turn.specs.declared.Turn.{Turn}
 use Rattle.turn.specs.Calls.{part, KernelPart}
 use Rattle.turn.specs.House.{cosines, sines}

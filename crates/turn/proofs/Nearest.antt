@@ -1,9 +1,7 @@
 -- c / 2 ^ 60 rounded to binary32 is q * 2 ^ k / 2 ^ 60, where q is the whole number nearest to c / 2 ^ k and k is how many digits c has
 -- beyond 24. Assumes nothing.
 use Prim.Native.Nat.{ℕ, zero, suc, _+_, _-_, _*_, _/_, _%_, _^_, _<_, _≤_}
-use native.Mathlib.Nat.{mul-one, one-mul, mul-pos, mul-assoc, mul-comm, mul-left-comm, mul-right-comm, mul-div-cancel, mul-mod-left}
-use native.Mathlib.Nat.{eq-or-lt-of-le, lt-of-not-le, not-le-of-lt, lt-of-lt-of-le, le-trans, le-of-eq, le-refl, zero-lt-suc}
-use native.Mathlib.Nat.{mul-lt-mul-of-pos-right, mul-le-mul-right, eq-of-mul-eq-mul-right, mod-eq-of-lt}
+use native.Mathlib.Nat.{mul-one, one-mul, mul-pos, mul-assoc, mul-comm, mul-left-comm, mul-right-comm, mul-div-cancel, mul-mod-left, eq-or-lt-of-le, lt-of-not-le, not-le-of-lt, lt-of-lt-of-le, le-trans, le-of-eq, le-refl, zero-lt-suc, mul-lt-mul-of-pos-right, mul-le-mul-right, eq-of-mul-eq-mul-right, mod-eq-of-lt}
 use native.Mathlib.Decide.{decLe}
 use native.Mathlib.Omega.{arith}
 use mathlib.Core.Path.{_≡_, refl, sym, ap, _∙_, subst}
@@ -13,8 +11,7 @@ use lib.Dec.{T, ltb, le→leb, lit<}
 use lib.Pow.{pow-add, pow-pos, pow-mono, pow-lt}
 use lib.Count.{trailingZeros, leadingZeros, leading-length}
 use lib.IntN.{pos}
-use lib.Ieee.{Float, nan, inf, fin, Format, binary32, prec, low, emax, up, down, minus, size, odd, units, round, mul, neg, ofInt, ofBits}
-use lib.Ieee.{ofFields, isNan, nanBits, inFloat}
+use lib.Ieee.{Float, nan, inf, fin, Format, binary32, prec, low, emax, up, down, minus, size, odd, units, round, mul, neg, ofInt, ofBits, ofFields, isNan, nanBits, inFloat}
 use lib.Ieee.Digits.{size-lt, size-le, minus-val}
 use lib.Ieee.Fits.{round-is, down-pos}
 use lib.Ieee.Exact.{HasValue}

@@ -7,7 +7,7 @@ use Rattle.refusal.specs.Refusal.{_⇒_, verdict}
 use Rattle.refusal.specs.declared.Refusal.the-variants.{NotHoused}
 use Rattle.refusal.specs.declared.Verdict.{Verdict}
 use Rattle.refusal.specs.declared.Verdict.the-variants.{Accepted, Refused}
-use Rattle.plan.specs.Lists.{isRadix}
+use Rattle.radices.specs.Lists.{isRadix}
 use Rattle.schedule.specs.Stage.{Part}
 use Rattle.turn.specs.declared.Turn.{Turn}
 use Rattle.turn.specs.declared.Turn.the-variants.{General}

@@ -8,14 +8,14 @@ use mathlib.Core.Bool.{true}
 use mathlib.Core.List.{List}
 use lib.Ieee.{Float, nan}
 use lib.ListN.{length}
-use Rattle.plan.specs.Counts.{endCount}
+use Rattle.counts.specs.Counts.{endCount}
 use Rattle.turn.specs.Turns.{housed, turnAt, wordsOf}
 use Rattle.turn.specs.declared.Turn.{Turn}
 use Rattle.turn.proofs.Index.{housed-pos, housed-parts, index-below}
 use Rattle.twiddle.specs.Twiddles.{directed, endTwiddle, endWords}
 use Rattle.twiddle.specs.Words.{putPairs}
 use Rattle.twiddle.specs.declared.inner.ends.Direction.{Direction}
-use Rattle.twiddle.proofs.Counts.{end-few}
+use Rattle.counts.proofs.Counts.{end-few}
 use Rattle.twiddle.proofs.Words.{puts-row}
 
 pub end-inside : (n k : ℕ) → housed n ≡ true → k ≤ endCount n → k < n

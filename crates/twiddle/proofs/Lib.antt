@@ -4,7 +4,6 @@ pub mod Lanes
 pub mod Words
 pub mod Fill
 pub mod Circle
-pub mod Counts
 pub mod Verdicts
 pub mod Ends
 pub mod Stage

@@ -10,10 +10,11 @@ use lib.Ieee.{Float, nan}
 use lib.ListN.{length, getD, take, drop, length-append}
 use lib.Seq.{take-at, take-all, length-take-le}
 use borrow.Rule.Slice.PartMut.{midOf, putMid, same-len-mid, mid-len}
-use Rattle.plan.specs.Counts.{radix, stride, twiddleCount, twiddleStart, stageTwiddles}
-use Rattle.plan.specs.Lists.{product}
+use Rattle.counts.specs.Counts.{radix, stride, twiddleCount, twiddleStart, stageTwiddles}
+use Rattle.radices.specs.Lists.{product}
 use Rattle.plan.specs.declared.Record.{Record}
-use Rattle.plan.proofs.Counts.{plan-half, plan-sized, plan-radix-bounds, count-later, start-next}
+use Rattle.plan.proofs.Bounds.{plan-half, plan-sized, plan-radix-bounds}
+use Rattle.counts.proofs.Counts.{count-later, start-next, start-up}
 use Rattle.schedule.specs.Plans.{inUse}
 use Rattle.schedule.proofs.Plans.{use-stride, use-radix, use-parts, use-stride-some}
 use Rattle.turn.specs.Turns.{housed}
@@ -21,7 +22,6 @@ use Rattle.twiddle.specs.Calls.{Packable, Shape}
 use Rattle.twiddle.specs.Twiddles.{twiddle, stageWords, stagesWords}
 use Rattle.twiddle.specs.Words.{packed}
 use Rattle.twiddle.proofs.Circle.{housed-part}
-use Rattle.twiddle.proofs.Counts.{start-up}
 use Rattle.twiddle.proofs.Verdicts.{width-bounds}
 use Rattle.twiddle.proofs.Words.{length-packed}
 

@@ -7,14 +7,13 @@ use mathlib.Core.List.{List, _++_}
 use lib.Ieee.{Float}
 use lib.ListN.{length, getD, length-append, List·getD-append}
 use lib.Seq.{getD-append-add, getD-take}
-use Rattle.plan.specs.Counts.{radix, stride, twiddleCount, twiddleStart}
+use Rattle.counts.specs.Counts.{radix, stride, twiddleCount, twiddleStart}
 use Rattle.plan.specs.declared.Record.{Record}
-use Rattle.plan.proofs.Counts.{start-next}
+use Rattle.counts.proofs.Counts.{start-next, start-up}
 use Rattle.schedule.specs.Plans.{inUse}
 use Rattle.twiddle.specs.Places.{place}
 use Rattle.twiddle.specs.Twiddles.{twiddle, stageWords, stagesWords}
 use Rattle.twiddle.specs.Words.{At}
-use Rattle.twiddle.proofs.Counts.{start-up}
 use Rattle.twiddle.proofs.Fill.{packed-at}
 use Rattle.twiddle.proofs.Places.{stands}
 use Rattle.twiddle.proofs.Words.{length-packed}

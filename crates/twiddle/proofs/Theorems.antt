@@ -12,7 +12,7 @@ use Rattle.refusal.specs.declared.Refusal.{Refusal}
 use Rattle.refusal.specs.declared.Verdict.{Verdict}
 use Rattle.refusal.specs.declared.Verdict.the-variants.{Accepted, Refused}
 use Rattle.refusal.proofs.Rows.{settled}
-use Rattle.plan.specs.Counts.{radix, stride, twiddleStart, endCount}
+use Rattle.counts.specs.Counts.{radix, stride, twiddleStart, endCount}
 use Rattle.plan.specs.declared.Record.{Record}
 use Rattle.schedule.specs.Plans.{inUse}
 use Rattle.schedule.specs.Stage.{twiddleTurn}

@@ -10,7 +10,7 @@ use lib.ListN.{length}
 use Rattle.refusal.specs.Refusal.{_⇒_, verdict, Settles}
 use Rattle.refusal.specs.declared.Refusal.the-variants.{NotPlanned, Width, NotHoused, Length}
 use Rattle.refusal.specs.declared.Verdict.{Verdict}
-use Rattle.plan.specs.Counts.{stageTwiddles, endCount}
+use Rattle.counts.specs.Counts.{stageTwiddles, endCount}
 use Rattle.plan.specs.Record.{isPlanned}
 use Rattle.plan.specs.declared.Record.{Record}
 use Rattle.schedule.specs.Plans.{inUse}

@@ -2,7 +2,7 @@
 use Prim.Native.Nat.{ℕ, zero, suc, _/_}
 use mathlib.Core.List.{List, [], _++_}
 use lib.Ieee.{Float, binary32, mul, neg, ofBits}
-use Rattle.plan.specs.Counts.{radix, stride, endCount}
+use Rattle.counts.specs.Counts.{radix, stride, endCount}
 use Rattle.schedule.specs.Stage.{twiddleTurn}
 use Rattle.turn.specs.Calls.{part}
 use Rattle.turn.specs.Turns.{turnOf, wordsOf}

@@ -6,7 +6,7 @@ ghost use mathlib.Core.Path.{_≡_};
 ghost use mathlib.Core.Bool.{true, false};
 ghost use Prim.Native.Nat.{ℕ, _+_, _-_, _*_, _<_, _≤_};
 ghost use lib.ListN.{length, getD};
-ghost use Rattle.plan.specs.Lists.{isRadix};
+ghost use Rattle.radices.specs.Lists.{isRadix};
 ghost use Rattle.schedule.specs.Stage.{tabulate};
 ghost use Rattle.floats.specs.Complexes.{blank, cell};
 ghost use Rattle.kernel.specs.Parts.{kernelOf, readOf, Sized};

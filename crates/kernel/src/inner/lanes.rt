@@ -7,7 +7,7 @@ ghost use mathlib.Core.Path.{_≡_};
 ghost use mathlib.Core.Bool.{true, false};
 ghost use Prim.Native.Nat.{ℕ, _+_, _-_, _*_, _/_, _%_, _^_, _<_, _≤_};
 ghost use lib.ListN.{length, getD};
-ghost use Rattle.plan.specs.Lists.{isRadix};
+ghost use Rattle.radices.specs.Lists.{isRadix};
 ghost use Rattle.floats.specs.Complexes.{blank};
 ghost use Rattle.kernel.specs.Parts.{kernelOf, outputOf, Sized, Fetched, Wrote, Done, lane, Held, Saved, InBlock, Stored, Batch, Even, Evenly, Placed};
 

@@ -2,7 +2,7 @@
 use mathlib.Core.Path.{sym, ap, _∙_}
 use Rattle.refusal.specs.Refusal.{left}
 use Rattle.refusal.specs.declared.Verdict.{Verdict}
-use Rattle.plan.specs.Counts.{bufferNumber, resultIn}
+use Rattle.counts.specs.Counts.{bufferNumber, resultIn}
 use borrow.Author.Needs.{needs}
 use Rattle.ladlespindle.proofs.holder.Statement.{statement}
 use Rattle.ladlespindle.proofs.holder.Tie as tie

@@ -1,6 +1,6 @@
 -- `ladlespindle_end_twiddles` meets its promise: the count of the record that planning answers. Assumes nothing.
 use borrow.Author.Needs.{needs}
-use Rattle.plan.specs.Counts.{endCount}
+use Rattle.counts.specs.Counts.{endCount}
 use Rattle.plan.specs.declared.Record.{Record}
 use Rattle.ladlespindle.proofs.Answers.{count-for}
 use Rattle.ladlespindle.proofs.ladlespindle_end_twiddles.Statement.{statement}

@@ -1,7 +1,7 @@
 -- `ladlespindle_result` meets its promise: the buffer of the record that planning answers, as a number. Assumes nothing.
 use borrow.Author.Needs.{needs}
 use mathlib.Core.Path.{_∙_}
-use Rattle.plan.specs.Counts.{resultIn}
+use Rattle.counts.specs.Counts.{resultIn}
 use Rattle.plan.specs.declared.Record.{Record}
 use Rattle.ladlespindle.proofs.Answers.{buffer-for}
 use Rattle.ladlespindle.proofs.ladlespindle_result.Statement.{statement}

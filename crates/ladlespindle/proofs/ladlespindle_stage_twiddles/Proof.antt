@@ -1,6 +1,6 @@
 -- `ladlespindle_stage_twiddles` meets its promise: the count of the record that planning answers. Assumes nothing.
 use borrow.Author.Needs.{needs}
-use Rattle.plan.specs.Counts.{stageTwiddles}
+use Rattle.counts.specs.Counts.{stageTwiddles}
 use Rattle.ladlespindle.proofs.Answers.{count-for}
 use Rattle.ladlespindle.proofs.ladlespindle_stage_twiddles.Statement.{statement}
 use Rattle.ladlespindle.proofs.ladlespindle_stage_twiddles.Tie as tie

@@ -4,9 +4,9 @@ use mathlib.Core.Path.{_≡_, sym}
 use borrow.Author.Needs.{needs}
 use Rattle.refusal.specs.declared.Verdict.the-variants.{Accepted}
 use Rattle.refusal.proofs.Rows.{deciding}
-use Rattle.plan.specs.Lists.{product}
+use Rattle.radices.specs.Lists.{product}
 use Rattle.plan.specs.Record.{planVerdict}
-use Rattle.plan.proofs.Records.{running-early, running-through}
+use Rattle.radices.proofs.Products.{running-early, running-through}
 use Rattle.plan.proofs.Planning.{answer-refused, answer-accepted}
 use Rattle.plan.proofs.plan.Statement.{statement}
 use Rattle.plan.proofs.plan.Tie as tie

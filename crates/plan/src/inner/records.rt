@@ -1,14 +1,14 @@
 // Which records planning gives.
 use crate::Record;
-use crate::inner::lists::running_product;
-use crate::inner::merging::ascending;
-use crate::inner::merging::counts_of;
-use crate::inner::merging::size;
+use merging::inner::merging::ascending;
+use merging::inner::merging::counts_of;
+use merging::inner::merging::size;
+use radices::inner::lists::running_product;
 ghost use mathlib.Core.Path.{_≡_};
 ghost use Prim.Native.Nat.{_≤_};
 ghost use lib.Dec.{eqb};
 ghost use lib.ListN.{length};
-ghost use Rattle.plan.specs.Lists.{product, firstBad, eqList};
+ghost use Rattle.radices.specs.Lists.{product, firstBad, eqList};
 ghost use Rattle.plan.specs.Record.{inOrder, isPlanned};
 
 // Whether two arrays hold the same.

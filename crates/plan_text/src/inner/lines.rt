@@ -5,8 +5,8 @@ use crate::inner::text::with_byte;
 use crate::inner::text::with_bytes;
 use crate::inner::text::with_number;
 use crate::inner::text::with_radix;
-use plan::Buffer;
-use plan::Merges;
+use counts::Buffer;
+use merging::Merges;
 use plan::Record;
 use refusal::Refusal;
 ghost use mathlib.Core.Path.{_≡_};
@@ -83,9 +83,9 @@ pub fn plan_lines(plan: Record, merges: Merges) -> Text
     let radices = plan.radices;
     let factors = factors_line(half, radices, plan.count);
     let merged = number_line(factors, b"merges", merges.count);
-    let stage = number_line(merged, b"stage", plan::stage_twiddles(plan).count);
-    let end = number_line(stage, b"end", plan::end_twiddles(plan).count);
-    let located = plan::result(plan);
+    let stage = number_line(merged, b"stage", counts::stage_twiddles(plan).count);
+    let end = number_line(stage, b"end", counts::end_twiddles(plan).count);
+    let located = counts::result(plan);
     let buffer = located.buffer;
     result_line(end, buffer)
 }

@@ -1,8 +1,8 @@
 // A stage in remainders: the cells of each iteration are read, twiddled, summed and written.
 use crate::inner::power::power;
 use crate::inner::power::powers;
+use counts::inner::stages::stride;
 use plan::Record;
-use plan::inner::stages::stride;
 ghost use mathlib.Core.Path.{_≡_};
 ghost use mathlib.Core.Bool.{cond};
 ghost use Prim.Native.Nat.{ℕ, _+_, _*_, _%_, _≤_, _<_};

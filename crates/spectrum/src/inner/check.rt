@@ -1,9 +1,9 @@
 // Which plans, widths, lengths and numbers are taken.
+use counts::inner::stages::end_count;
+use counts::inner::stages::twiddle_start;
 use floats::inner::scan::first_unfit;
 use plan::Record;
 use plan::inner::records::is_planned;
-use plan::inner::stages::end_count;
-use plan::inner::stages::twiddle_start;
 use refusal::Refusal;
 use refusal::Verdict;
 use twiddle::inner::check::is_width;

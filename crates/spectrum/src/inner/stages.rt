@@ -1,10 +1,10 @@
 // The stages of a plan on a scratch, and what comes before and after them. Data and Scratchpad are parts of one slice, so the stages alternate
 // between Data and the first words of another buffer, which are then copied.
+use counts::Buffer;
 use ends::inner::cells::postprocess_fft;
 use ends::inner::cells::preprocess_ifft;
 use ends::inner::words::conjugate;
 use floats::inner::words::paste;
-use plan::Buffer;
 use plan::Record;
 use stage::inner::drive::all;
 use stage::inner::drive::all_from;
@@ -14,7 +14,7 @@ ghost use mathlib.Core.Bool.{cond};
 ghost use mathlib.Core.List.{_++_};
 ghost use Prim.Native.Nat.{_+_, _*_, _≤_};
 ghost use lib.ListN.{length, drop};
-ghost use Rattle.plan.specs.Counts.{resultIn};
+ghost use Rattle.counts.specs.Counts.{resultIn};
 ghost use Rattle.schedule.specs.Buffers.{heldIn};
 ghost use Rattle.stage.specs.Runs.{runOf};
 ghost use Rattle.floats.specs.Words.{pasted};

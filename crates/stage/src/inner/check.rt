@@ -1,8 +1,8 @@
 // Which plans, stages, widths, lengths and numbers are taken.
+use counts::inner::stages::twiddle_count;
 use floats::inner::scan::first_unfit;
 use plan::Record;
 use plan::inner::records::is_planned;
-use plan::inner::stages::twiddle_count;
 use refusal::Refusal;
 use refusal::Verdict;
 use twiddle::inner::check::is_width;

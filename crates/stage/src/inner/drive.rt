@@ -1,16 +1,16 @@
 // All stages of a run, from one buffer to the other and back.
+use counts::Buffer;
+use counts::inner::stages::result_in;
+use counts::inner::stages::twiddle_count;
 use floats::inner::words::paste;
 use kernel::inner::stage::work;
-use plan::Buffer;
 use plan::Record;
-use plan::inner::stages::result_in;
-use plan::inner::stages::twiddle_count;
 ghost use mathlib.Core.Path.{_≡_};
 ghost use mathlib.Core.List.{List};
 ghost use Prim.Native.Nat.{_<_};
 ghost use lib.Ieee.{Float};
 ghost use lib.ListN.{length};
-ghost use Rattle.plan.specs.Counts.{resultIn};
+ghost use Rattle.counts.specs.Counts.{resultIn};
 ghost use Rattle.schedule.specs.Buffers.{heldIn};
 ghost use Rattle.stage.specs.Runs.{stageIn, runOf, Drivable, Steppable};
 

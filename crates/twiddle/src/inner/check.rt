@@ -1,8 +1,8 @@
 // Which plans, widths and lengths are taken.
+use counts::inner::stages::end_count;
+use counts::inner::stages::twiddle_start;
 use plan::Record;
 use plan::inner::records::is_planned;
-use plan::inner::stages::end_count;
-use plan::inner::stages::twiddle_start;
 use refusal::Refusal;
 use refusal::Verdict;
 use turn::inner::lookup::is_housed;

@@ -1,6 +1,6 @@
 // The end twiddles of either direction.
 use crate::inner::words::put;
-use plan::inner::stages::end_count;
+use counts::inner::stages::end_count;
 use turn::inner::lookup::at;
 use turn::inner::words::Words;
 use turn::inner::words::words_of;

@@ -1,8 +1,8 @@
 // The twiddles of the stages, packed for a width.
 use crate::inner::words::put;
+use counts::inner::stages::stride;
+use counts::inner::stages::twiddle_start;
 use plan::Record;
-use plan::inner::stages::stride;
-use plan::inner::stages::twiddle_start;
 use turn::inner::lookup::at;
 use turn::inner::words::words_of;
 ghost use mathlib.Core.Path.{_≡_};

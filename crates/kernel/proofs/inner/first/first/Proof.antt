@@ -6,7 +6,7 @@ use mathlib.Core.Bool.{true, true≢false}
 use mathlib.Core.Logic.{⊎-elim}
 use borrow.Author.Needs.{needs}
 use lib.ListN.{length}
-use Rattle.plan.specs.Lists.{isRadix}
+use Rattle.radices.specs.Lists.{isRadix}
 use Rattle.floats.specs.declared.complex.Complex.{Complex}
 use Rattle.kernel.specs.Parts.{outputOf, Wrote, Done}
 use Rattle.kernel.proofs.Places.{first-step}

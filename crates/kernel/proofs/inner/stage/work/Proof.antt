@@ -3,7 +3,7 @@ use Prim.Native.Nat.{_-_}
 use mathlib.Core.Path.{refl}
 use native.Mathlib.Omega.{arith}
 use borrow.Author.Needs.{needs}
-use Rattle.plan.proofs.Counts.{plan-order, plan-radix-bounds}
+use Rattle.plan.proofs.Bounds.{plan-order, plan-radix-bounds}
 use Rattle.kernel.proofs.Works.{work-sized, work-room, work-lending, work-blocks, first-made, later-made}
 use Rattle.kernel.proofs.inner.stage.work.Statement.{statement}
 use Rattle.kernel.proofs.inner.stage.work.Tie as tie

@@ -2,7 +2,8 @@
 use Prim.Native.Nat.{ℕ}
 use mathlib.Core.Path.{ap}
 use lib.Dec.{eqb}
-use Rattle.plan.proofs.Records.{made-not, running-early, running-through}
+use Rattle.plan.proofs.Records.{made-not}
+use Rattle.radices.proofs.Products.{running-early, running-through}
 use borrow.Author.Needs.{needs}
 use Rattle.plan.proofs.inner.records.makes.Statement.{statement}
 use Rattle.plan.proofs.inner.records.makes.Tie as tie

@@ -2,7 +2,7 @@
 use Prim.Native.Nat.{_-_, _≤_}
 use mathlib.Core.Path.{_≡_, refl}
 use lib.ListN.{length, drop}
-use Rattle.plan.specs.Lists.{eqList}
+use Rattle.radices.specs.Lists.{eqList}
 use Rattle.plan.proofs.Records.{same-next, same-not, same-end}
 use borrow.Author.Needs.{needs}
 use native.Mathlib.Omega.{arith}

@@ -6,8 +6,8 @@ use mathlib.Core.Path.{ap, _∙_}
 use mathlib.Core.List.{List, [], _∷_, _++_}
 use lib.Dec.{lit≤}
 use lib.ListN.{take}
-use Rattle.plan.specs.Counts.{twiddleStart, endCount, resultIn}
-use Rattle.plan.specs.declared.Buffer.{Buffer}
+use Rattle.counts.specs.Counts.{twiddleStart, endCount, resultIn}
+use Rattle.counts.specs.declared.Buffer.{Buffer}
 use Rattle.plan_text.specs.Lines.{decimal, line}
 use Rattle.plan_text.specs.Report.{factorWords, bufferName, planLines}
 use Rattle.plan_text.proofs.Growing.{then, said, holds}

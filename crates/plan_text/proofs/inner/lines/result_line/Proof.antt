@@ -3,7 +3,7 @@ use borrow.Author.Needs.{needs}
 use mathlib.Core.Path.{sym, ap}
 use mathlib.Core.List.{[], _∷_}
 use lib.Dec.{lit≤}
-use Rattle.plan.specs.declared.Buffer.{Buffer}
+use Rattle.counts.specs.declared.Buffer.{Buffer}
 use Rattle.plan_text.specs.Lines.{line}
 use Rattle.plan_text.specs.Report.{bufferName}
 use Rattle.plan_text.proofs.Growing.{said}

@@ -1,5 +1,5 @@
 -- `digit_value` is the definition's radix of a byte, case by case. Assumes nothing.
-use Rattle.plan.specs.Lists.{isRadix}
+use Rattle.radices.specs.Lists.{isRadix}
 use Rattle.plan_text.specs.Tokens.{digitValue}
 use Rattle.plan_text.proofs.Reading.{no-digit}
 use mathlib.Core.Path.{sym}

@@ -6,8 +6,8 @@ use lib.Dec.{ltb}
 use lib.ListN.{length, drop}
 use Prim.Native.Nat.{ℕ, _+_, _-_, _≤_}
 use borrow.Author.Tests.{lt-ltb, le-ltb}
-use Rattle.plan.specs.Lists.{firstThat}
-use Rattle.plan.proofs.Lists.{first-skip, first-here, first-none}
+use Rattle.radices.specs.Lists.{firstThat}
+use Rattle.radices.proofs.Lists.{first-skip, first-here, first-none}
 use Rattle.remainder.specs.Calls.{firstLarge}
 use Rattle.remainder.proofs.inner.check.first_large.Statement.{statement}
 use Rattle.remainder.proofs.inner.check.first_large.Tie as tie

@@ -10,8 +10,6 @@ use Rattle.remainder.specs.Rows.{value, stepped}
 use Rattle.remainder.proofs.Iteration.{value-stepped, power-none}
 use Rattle.remainder.proofs.Powers.{next-power, below-mod, product-fits}
 use Rattle.remainder.proofs.Shapes.{stride-few}
-use borrow.Author.Needs.{needs}
-use native.Mathlib.Omega.{arith}
 use Rattle.remainder.proofs.inner.stage.columns.Statement.{statement}
 use Rattle.remainder.proofs.inner.stage.columns.Tie as tie
 

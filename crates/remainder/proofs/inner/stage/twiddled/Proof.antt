@@ -5,7 +5,6 @@ use Prim.Native.Nat.{ℕ, _*_, _%_, _^_}
 use lib.ListN.{getD}
 use native.Mathlib.Omega.{arith}
 use borrow.Author.Needs.{needs}
-use native.Mathlib.Omega.{arith}
 use Rattle.remainder.proofs.inner.stage.twiddled.Statement.{statement}
 use Rattle.remainder.proofs.inner.stage.twiddled.Tie as tie
 

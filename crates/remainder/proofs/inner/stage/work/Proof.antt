@@ -3,12 +3,11 @@ use mathlib.Core.Path.{refl, sym, _∙_}
 use Prim.Native.Nat.{_<_}
 use native.Mathlib.Nat.{le-of-lt}
 use native.Mathlib.Omega.{arith}
-use Rattle.plan.proofs.Counts.{plan-order, plan-radix-bounds}
+use Rattle.plan.proofs.Bounds.{plan-order, plan-radix-bounds}
 use Rattle.schedule.proofs.Plans.{use-stride, use-stride-some}
 use Rattle.remainder.proofs.Powers.{below-mod}
 use Rattle.remainder.proofs.Columns.{work-shape, work-done}
 use borrow.Author.Needs.{needs}
-use native.Mathlib.Omega.{arith}
 use Rattle.remainder.proofs.inner.stage.work.Statement.{statement}
 use Rattle.remainder.proofs.inner.stage.work.Tie as tie
 

@@ -6,7 +6,8 @@ use mathlib.Core.Bool.{true}
 use borrow.Author.Needs.{needs}
 use Rattle.refusal.proofs.Rows.{deciding, accepted}
 use Rattle.plan.specs.Record.{isPlanned}
-use Rattle.twiddle.proofs.Counts.{plan-some, plan-few, start-few, end-few}
+use Rattle.plan.proofs.Bounds.{plan-some, plan-few}
+use Rattle.counts.proofs.Counts.{start-few, end-few}
 use Rattle.spectrum.specs.Calls.{sizeVerdict}
 use Rattle.spectrum.proofs.inner.check.sizes.Statement.{statement}
 use Rattle.spectrum.proofs.inner.check.sizes.Tie as tie

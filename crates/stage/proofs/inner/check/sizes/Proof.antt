@@ -5,7 +5,8 @@ use native.Mathlib.Omega.{arith}
 use borrow.Author.Needs.{needs}
 use Rattle.refusal.proofs.Rows.{deciding, accepted}
 use Rattle.plan.specs.Record.{isPlanned}
-use Rattle.plan.proofs.Counts.{plan-half, count-small}
+use Rattle.plan.proofs.Bounds.{plan-half}
+use Rattle.counts.proofs.Counts.{count-small}
 use Rattle.stage.specs.Calls.{sizeVerdict}
 use Rattle.stage.proofs.inner.check.sizes.Statement.{statement}
 use Rattle.stage.proofs.inner.check.sizes.Tie as tie

@@ -5,7 +5,7 @@ use mathlib.Core.Path.{_≡_, refl, ap, _∙_}
 use lib.Ieee.{Float}
 use lib.ListN.{length}
 use borrow.Author.Needs.{needs}
-use Rattle.plan.proofs.Counts.{start-none}
+use Rattle.counts.proofs.Counts.{start-none}
 use Rattle.schedule.specs.Buffers.{Two}
 use Rattle.stage.specs.Runs.{stageIn, runOf}
 use Rattle.stage.proofs.Runs.{drivable-as, steppable, gone-none}

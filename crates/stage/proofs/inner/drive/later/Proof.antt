@@ -6,9 +6,8 @@ use mathlib.Core.Logic.{⊎-elim}
 use mathlib.Core.Path.{_≡_, sym, ap, _∙_}
 use lib.ListN.{length}
 use borrow.Author.Needs.{needs}
-use Rattle.plan.specs.Counts.{twiddleStart}
-use Rattle.plan.proofs.Counts.{count-small, start-next, start-none}
-use Rattle.twiddle.proofs.Counts.{start-few}
+use Rattle.counts.specs.Counts.{twiddleStart}
+use Rattle.counts.proofs.Counts.{count-small, start-next, start-none, start-few}
 use Rattle.floats.proofs.Words.{whole-pasted}
 use Rattle.stage.specs.Runs.{stageIn}
 use Rattle.stage.proofs.Runs.{steppable, length-made, Going, going-first, going-even, going-odd, gone-one, gone-all}

@@ -3,8 +3,7 @@ use Prim.Native.Nat.{_-_}
 use native.Mathlib.Nat.{le-of-lt}
 use native.Mathlib.Omega.{arith}
 use borrow.Author.Needs.{needs}
-use Rattle.plan.proofs.Counts.{count-small}
-use Rattle.twiddle.proofs.Counts.{start-few}
+use Rattle.counts.proofs.Counts.{count-small, start-few}
 use Rattle.stage.proofs.Runs.{own-within, own-slice, step-workable, step-made}
 use Rattle.stage.proofs.inner.drive.one.Statement.{statement}
 use Rattle.stage.proofs.inner.drive.one.Tie as tie

@@ -7,7 +7,8 @@ use borrow.Author.Needs.{needs}
 use Rattle.refusal.proofs.Rows.{deciding, accepted}
 use Rattle.plan.specs.Record.{isPlanned}
 use Rattle.twiddle.specs.Calls.{fillVerdict}
-use Rattle.twiddle.proofs.Counts.{plan-some, plan-few, start-few, end-few}
+use Rattle.plan.proofs.Bounds.{plan-some, plan-few}
+use Rattle.counts.proofs.Counts.{start-few, end-few}
 use Rattle.twiddle.proofs.inner.check.lent.Statement.{statement}
 use Rattle.twiddle.proofs.inner.check.lent.Tie as tie
 

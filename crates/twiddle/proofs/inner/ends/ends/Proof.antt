@@ -5,7 +5,7 @@ use mathlib.Core.Path.{_≡_, ap, _∙_}
 use lib.ListN.{length}
 use borrow.Author.Needs.{needs}
 use lib.Ieee.{nan}
-use Rattle.plan.specs.Counts.{endCount}
+use Rattle.counts.specs.Counts.{endCount}
 use Rattle.twiddle.specs.Twiddles.{endTwiddle}
 use Rattle.twiddle.specs.Words.{putPairs}
 use Rattle.twiddle.proofs.Words.{length-puts, puts-none, puts-next}

@@ -1,5 +1,5 @@
 -- `twiddle::inner::fill::fill` meets its contract. Assumes nothing.
-use Rattle.twiddle.proofs.Counts.{plan-some}
+use Rattle.plan.proofs.Bounds.{plan-some}
 use Rattle.twiddle.proofs.Verdicts.{taken, fill-refused, fill-accepted}
 use borrow.Author.Needs.{needs}
 use Rattle.twiddle.proofs.inner.fill.fill.Statement.{statement}

@@ -4,11 +4,11 @@ use native.Mathlib.Omega.{arith}
 use mathlib.Core.Path.{_≡_, refl}
 use lib.ListN.{length, take}
 use borrow.Author.Needs.{needs}
-use Rattle.plan.specs.Counts.{twiddleStart}
-use Rattle.plan.proofs.Counts.{plan-order, plan-long, plan-radix-bounds}
+use Rattle.counts.specs.Counts.{twiddleStart}
+use Rattle.plan.proofs.Bounds.{plan-order, plan-long, plan-radix-bounds}
 use Rattle.schedule.specs.Plans.{inUse}
 use Rattle.twiddle.specs.Twiddles.{stagesWords}
-use Rattle.twiddle.proofs.Counts.{start-few}
+use Rattle.counts.proofs.Counts.{start-few}
 use Rattle.twiddle.proofs.Stages.{stages-none, stage-shape, part-up, part-inside, part-room, stages-next, stages-done}
 use Rattle.twiddle.proofs.inner.stages.stages.Statement.{statement}
 use Rattle.twiddle.proofs.inner.stages.stages.Tie as tie

@@ -1,0 +1,20 @@
+-- `plan::inner::stages::end_count` meets its contract. Assumes nothing.
+use borrow.Author.Tests.{eq-eqb, ne-eqb}
+use Rattle.counts.specs.Counts.{endCount}
+use borrow.Author.Needs.{needs}
+use Rattle.counts.proofs.inner.stages.end_count.Statement.{statement}
+use Rattle.counts.proofs.inner.stages.end_count.Tie as tie
+
+sub-result : tie.Need-sub-result
+sub-result c = search needs
+
+returns : tie.Need-returns
+unfolding endCount
+returns c = simp (eq-eqb _ _ (c .if1 .taken))
+
+returns-2 : tie.Need-returns-2
+unfolding endCount
+returns-2 c = simp (ne-eqb _ _ (c .if1 .left))
+
+pub end-count-spec : {M : Type 1} → statement M
+end-count-spec = tie.close (tie.spec sub-result returns returns-2)

@@ -1,0 +1,20 @@
+-- `plan::inner::stages::result_in` meets its contract. Assumes nothing.
+use borrow.Author.Tests.{eq-eqb, ne-eqb}
+use Rattle.counts.specs.Counts.{resultIn}
+use Rattle.counts.proofs.inner.stages.result_in.Statement.{statement}
+use Rattle.counts.proofs.inner.stages.result_in.Tie as tie
+
+returns : tie.Need-returns
+unfolding resultIn
+returns c = simp (eq-eqb _ _ (c .if1 .taken))
+
+returns-2 : tie.Need-returns-2
+unfolding resultIn
+returns-2 c = simp (ne-eqb _ _ (c .before .if1 .left), eq-eqb _ _ (c .if2 .taken))
+
+returns-3 : tie.Need-returns-3
+unfolding resultIn
+returns-3 c = simp (ne-eqb _ _ (c .before .if1 .left), ne-eqb _ _ (c .if2 .left))
+
+pub result-in-spec : {M : Type 1} → statement M
+result-in-spec = tie.close (tie.spec returns returns-2 returns-3)

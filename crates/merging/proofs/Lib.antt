@@ -1,0 +1,4 @@
+-- The laws that callers' proofs cite.
+pub mod Half
+pub mod Merging
+pub mod Weights

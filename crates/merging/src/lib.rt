@@ -1,0 +1,9 @@
+// The half list of a list of radices, and the merging of its radices.
+pub mod inner;
+
+// The merges that led to a plan, by their letters, unused entries 0.
+#[repr(C)]
+pub struct Merges {
+    pub count: usize,
+    pub letters: [u8; 13],
+}

@@ -1,0 +1,58 @@
+-- Laws of an accepted plan: its order, its sizes, and bounds of its radices. Assumes nothing.
+use Prim.Native.Nat.{ℕ, zero, suc, _-_, _<_, _≤_}
+use native.Mathlib.Omega.{arith}
+use mathlib.Core.Path.{_≡_, sym, ap, _∙_}
+use mathlib.Core.Bool.{true}
+use mathlib.Core.List.{List, [], _∷_}
+use lib.ListN.{length, getD, take}
+use lib.Seq.{getD-take, length-take-le}
+use Rattle.radices.specs.Lists.{isRadix}
+use Rattle.merging.specs.Merging.{tally}
+use Rattle.plan.specs.Record.{inOrder, sized, isPlanned}
+use Rattle.plan.specs.declared.Record.{Record}
+use Rattle.radices.proofs.Products.{Radical, radix-least, product-positive}
+use Rattle.merging.proofs.Weights.{radical-sorted}
+use Rattle.plan.proofs.Records.{both, InOrder, in-order, Sized, well-sized, order-fits}
+use Rattle.merging.specs.Half.{half}
+
+-- an entry of a list of radices is a radix
+radical-at : (xs : List ℕ) (j : ℕ) → Radical xs → j < length xs → isRadix (getD xs j 0) ≡ true
+unfolding Radical
+radical-at [] j r h = absurd (omega arith)
+radical-at (b ∷ bs) zero r h = r .0
+radical-at (b ∷ bs) (suc j) r h = radical-at bs j (r .1) (omega arith)
+
+module _ (p : Record) (e : isPlanned p ≡ true) where
+  pub plan-order : InOrder (p .count) (p .radices)
+  unfolding isPlanned
+  plan-order = in-order (p .count) (p .radices) (both (inOrder (p .count) (p .radices)) (sized p) e .0)
+
+  pub plan-sized : Sized p
+  unfolding isPlanned
+  plan-sized = well-sized p (both (inOrder (p .count) (p .radices)) (sized p) e .1)
+
+  pub plan-radical : Radical (take (p .count) (p .radices))
+  plan-radical = rw (plan-order .used) (radical-sorted (tally (take (p .count) (p .radices))))
+
+  -- n is twice half, between 2 and the largest length
+  pub plan-half : (0 < p .half) × (p .half ≤ 4096)
+  plan-half = let s = plan-sized in omega (arith, s .small, s .twice, s .made, product-positive _ plan-radical)
+
+  pub plan-long : p .count ≤ length (p .radices)
+  unfolding isPlanned
+  plan-long = order-fits (p .count) (p .radices) (both (inOrder (p .count) (p .radices)) (sized p) e .0)
+
+  -- each radix in use
+  pub plan-radix : (j : ℕ) → j < p .count → isRadix (getD (p .radices) j 0) ≡ true
+  plan-radix j h =
+      ap isRadix (sym (getD-take (p .count) (p .radices) j 0 h))
+      ∙ radical-at (take (p .count) (p .radices)) j plan-radical (omega (arith, length-take-le (p .count) (p .radices) plan-long))
+
+  pub plan-radix-bounds : (j : ℕ) → j < p .count → (2 ≤ getD (p .radices) j 0) × (getD (p .radices) j 0 ≤ 8)
+  plan-radix-bounds j h = radix-least (getD (p .radices) j 0) (plan-radix j h)
+
+  pub plan-some : 0 < p .n
+  plan-some = omega (arith, plan-half, plan-sized .twice)
+
+  pub plan-few : p .n ≤ 8192
+  plan-few = plan-sized .small

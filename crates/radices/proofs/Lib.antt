@@ -1,0 +1,3 @@
+-- The laws that callers' proofs cite.
+pub mod Lists
+pub mod Products

@@ -1,0 +1,10 @@
+-- Two answers that meet a promise are equal. Assumes nothing.
+use Prim.Native.Nat.{ℕ}
+use mathlib.Core.Path.{_≡_}
+use mathlib.Core.List.{List}
+use Rattle.refusal.proofs.Unique.{agree}
+use Rattle.scaling.specs.declared.Scaled.{Scaled}
+use Rattle.scaling.specs.Scaling.{Scales}
+
+pub Scales-one : {ins outs : List ℕ} {r s : Scaled} → Scales ins outs r → Scales ins outs s → r ≡ s
+Scales-one p q = agree (p .answer) (q .answer)
