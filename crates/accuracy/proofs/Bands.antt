@@ -10,9 +10,9 @@ use lib.ListN.{length}
 use lib.Ieee.{Float, binary32}
 use Rattle.refusal.specs.declared.Verdict.the-variants.{Accepted}
 use Rattle.floats.specs.Complexes.{cell}
-use Rattle.spectrum.specs.Power.{powerOf, powerFrom, powerVerdict, Powers}
-use Rattle.spectrum.specs.declared.Summed.{Summed}
-use Rattle.spectrum.proofs.Sums.{bins-told}
+use Rattle.power.specs.Power.{powerOf, powerFrom, powerVerdict, Powers}
+use Rattle.power.specs.declared.Summed.{Summed}
+use Rattle.power.proofs.Sums.{bins-told}
 use Rattle.finite.specs.Sizes.{Words}
 use Rattle.finite.proofs.Calls.{summing, summed-within}
 use Rattle.accuracy.specs.Gauss.{Gauss, scaleG, Disc, Off, valC}

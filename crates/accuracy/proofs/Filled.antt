@@ -20,8 +20,8 @@ use Rattle.turn.proofs.Index.{housed-parts}
 use Rattle.twiddle.specs.Calls.{Fills}
 use Rattle.twiddle.specs.declared.inner.ends.Direction.{Direction}
 use Rattle.twiddle.proofs.Verdicts.{taken}
-use Rattle.spectrum.specs.Transforms.{Slices}
-use Rattle.spectrum.proofs.Transforms.{plan-some, plan-twice}
+use Rattle.transform.specs.Transforms.{Slices}
+use Rattle.transform.proofs.Transforms.{plan-some, plan-twice}
 use Rattle.accuracy.specs.House.{house}
 use Rattle.accuracy.proofs.Run.{index-at}
 

@@ -30,10 +30,10 @@ use Rattle.stage.proofs.Theorems.{filled-run}
 use Rattle.ends.specs.Ends.{endCell, endLent, ended, fftSteps, postprocess-fft}
 use Rattle.ends.proofs.Cells.{cell-tabulated, length-ended}
 use Rattle.spectrum.specs.Calls.{Forwards}
-use Rattle.spectrum.specs.Parts.{Forwardable}
-use Rattle.spectrum.specs.Transforms.{Slices, padOf, forwardRun, forwardOf}
-use Rattle.spectrum.proofs.Scratch.{pad-length}
-use Rattle.spectrum.proofs.Transforms.{pairs-lent}
+use Rattle.transform.specs.Parts.{Forwardable}
+use Rattle.transform.specs.Transforms.{Slices, padOf, forwardRun, forwardOf}
+use Rattle.transform.proofs.Scratch.{pad-length}
+use Rattle.transform.proofs.Transforms.{pairs-lent}
 use Rattle.spectrum.proofs.Verdicts.{forwardable}
 use Rattle.accuracy.specs.Gauss.{Gauss, timesG, scaleG, Disc, Off, valC}
 use Rattle.accuracy.specs.House.{house}

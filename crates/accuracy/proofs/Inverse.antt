@@ -36,10 +36,10 @@ use Rattle.stage.proofs.Theorems.{filled-run}
 use Rattle.ends.specs.Ends.{endCell, endLent, ended, ifftSteps, preprocess-ifft, conjugated, zeros}
 use Rattle.ends.proofs.Cells.{cell-tabulated, length-ended, length-conjugated}
 use Rattle.spectrum.specs.Calls.{Inverts}
-use Rattle.spectrum.specs.Parts.{Invertible}
-use Rattle.spectrum.specs.Transforms.{Slices, dataOf, padOf, preparedOf, inverseRun, restored, inverseOf}
-use Rattle.spectrum.proofs.Scratch.{pad-length}
-use Rattle.spectrum.proofs.Transforms.{pairs-lent}
+use Rattle.transform.specs.Parts.{Invertible}
+use Rattle.transform.specs.Transforms.{Slices, dataOf, padOf, preparedOf, inverseRun, restored, inverseOf}
+use Rattle.transform.proofs.Scratch.{pad-length}
+use Rattle.transform.proofs.Transforms.{pairs-lent}
 use Rattle.spectrum.proofs.Verdicts.{invertible}
 use Rattle.accuracy.specs.Gauss.{Gauss, minusG, timesG, scaleG, Disc, Off, valC}
 use Rattle.accuracy.specs.House.{house}

@@ -30,9 +30,9 @@ use Rattle.twiddle.specs.declared.inner.ends.Direction.the-variants.{Forward, I
 use Rattle.twiddle.proofs.Verdicts.{taken}
 use Rattle.floats.specs.Complexes.{cell}
 use Rattle.spectrum.specs.Calls.{Forwards, Inverts}
-use Rattle.spectrum.specs.Power.{powerFrom, powerVerdict, Powers, summed}
-use Rattle.spectrum.specs.Transforms.{Slices}
-use Rattle.spectrum.specs.declared.Summed.{Summed}
+use Rattle.power.specs.Power.{powerFrom, powerVerdict, Powers, summed}
+use Rattle.transform.specs.Transforms.{Slices}
+use Rattle.power.specs.declared.Summed.{Summed}
 use Rattle.finite.specs.Bits.{HoldAll}
 use Rattle.finite.specs.Sizes.{Words}
 use Rattle.finite.proofs.Calls.{samples-within, bins-within}

@@ -31,9 +31,9 @@ use Rattle.floats.specs.declared.complex.Complex.{Complex}
 use Rattle.kernel.specs.Floats.{floats, stageOf}
 use Rattle.ends.specs.Ends.{endCell, ended, conjugated}
 use Rattle.spectrum.specs.Calls.{forwardVerdict, inverseVerdict, lentVerdict}
-use Rattle.spectrum.specs.Power.{powerFrom, powerVerdict, summed}
-use Rattle.spectrum.specs.Transforms.{Slices, forwardRun, forwardOf, preparedOf, inverseRun, inverseOf}
-use Rattle.spectrum.specs.declared.Summed.{Summed}
+use Rattle.power.specs.Power.{powerFrom, powerVerdict, summed}
+use Rattle.transform.specs.Transforms.{Slices, forwardRun, forwardOf, preparedOf, inverseRun, inverseOf}
+use Rattle.power.specs.declared.Summed.{Summed}
 use Rattle.remainder.specs.Calls.{firstLarge, runVerdict, runOf}
 use Rattle.remainder.specs.Residues.{turn, residues}
 use Rattle.cases.specs.Cases.{table, Gives, Sums, Refuses, Transforms, Holds, All}

@@ -24,9 +24,9 @@ use Rattle.twiddle.specs.Calls.{isWidth}
 use Rattle.floats.specs.Complexes.{cx, flat}
 use Rattle.floats.specs.declared.complex.Complex.{Complex}
 use Rattle.spectrum.specs.Calls.{Forwards, Inverts}
-use Rattle.spectrum.specs.Power.{Powers}
-use Rattle.spectrum.specs.Transforms.{Slices}
-use Rattle.spectrum.specs.declared.Summed.{Summed}
+use Rattle.power.specs.Power.{Powers}
+use Rattle.transform.specs.Transforms.{Slices}
+use Rattle.power.specs.declared.Summed.{Summed}
 use Rattle.remainder.specs.Calls.{Runs}
 use Rattle.remainder.specs.Residues.{residues}
 

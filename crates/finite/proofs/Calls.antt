@@ -26,10 +26,10 @@ use Rattle.stage.proofs.Same.{own-count}
 use Rattle.stage.proofs.Theorems.{stage-told, stage-left}
 use Rattle.stage.proofs.Verdicts.{stage-taken}
 use Rattle.spectrum.specs.Calls.{Forwards, Inverts}
-use Rattle.spectrum.specs.Power.{powerOf, powerFrom, powerVerdict, Powers, summed}
-use Rattle.spectrum.specs.Transforms.{Slices}
-use Rattle.spectrum.specs.declared.Summed.{Summed}
-use Rattle.spectrum.proofs.Sums.{bins-told}
+use Rattle.power.specs.Power.{powerOf, powerFrom, powerVerdict, Powers, summed}
+use Rattle.transform.specs.Transforms.{Slices}
+use Rattle.power.specs.declared.Summed.{Summed}
+use Rattle.power.proofs.Sums.{bins-told}
 use Rattle.spectrum.proofs.Verdicts.{lent-taken, forwardable, invertible}
 use Rattle.finite.specs.Sizes.{AtMost, Words, Within}
 use Rattle.finite.proofs.Ends.{zero-most}

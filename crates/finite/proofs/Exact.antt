@@ -28,9 +28,9 @@ use Rattle.floats.proofs.Flat.{get-paired}
 use Rattle.kernel.specs.Floats.{floats, lentAt, stageOf}
 use Rattle.stage.specs.Runs.{ownOf, stageIn}
 use Rattle.ends.specs.Ends.{+0, endCell, ended, ifftSteps, postprocess-fft, conjugated, zeros}
-use Rattle.spectrum.specs.Parts.{Forwardable, Invertible}
-use Rattle.spectrum.specs.Transforms.{dataOf, padOf, forwardRun, forwardOf, preparedOf, inverseRun, restored, inverseOf}
-use Rattle.spectrum.proofs.Transforms.{plan-twice}
+use Rattle.transform.specs.Parts.{Forwardable, Invertible}
+use Rattle.transform.specs.Transforms.{dataOf, padOf, forwardRun, forwardOf, preparedOf, inverseRun, restored, inverseOf}
+use Rattle.transform.proofs.Transforms.{plan-twice}
 use Rattle.finite.specs.Whole.{IsWhole, AreWhole, bin, Short, Small, Samples, IsBins}
 use Rattle.finite.proofs.Whole.{Sum, none, at, minus, _⊕_, part, copies, times-copies, Held, held-add, held-sub, held-neg, held-zero, held-as}
 

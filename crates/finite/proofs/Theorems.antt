@@ -21,10 +21,11 @@ use Rattle.twiddle.proofs.Unique.{Fills-one}
 use Rattle.stage.specs.Calls.{Stages}
 use Rattle.stage.proofs.Unique.{Stages-one}
 use Rattle.spectrum.specs.Calls.{Forwards, Inverts}
-use Rattle.spectrum.specs.Power.{Powers}
-use Rattle.spectrum.specs.Transforms.{Slices, dataOf, padOf}
-use Rattle.spectrum.specs.declared.Summed.{Summed}
-use Rattle.spectrum.proofs.Unique.{Forwards-one, Inverts-one, Powers-one}
+use Rattle.power.specs.Power.{Powers}
+use Rattle.transform.specs.Transforms.{Slices, dataOf, padOf}
+use Rattle.power.specs.declared.Summed.{Summed}
+use Rattle.spectrum.proofs.Unique.{Forwards-one, Inverts-one}
+use Rattle.power.proofs.Unique.{Powers-one}
 use Rattle.spectrum.proofs.Verdicts.{forwardable, invertible}
 use Rattle.finite.specs.Bits.{Holds, SameBits, SameWritten}
 use Rattle.finite.specs.Sizes.{AtMost, Words, RightForward, RightInverse, Within}

@@ -29,10 +29,10 @@ use Rattle.stage.specs.Runs.{stageIn, runOf, lentTo}
 use Rattle.stage.proofs.Runs.{own-within}
 use Rattle.ends.specs.Ends.{+0, endCell, endLent, ended, fftSteps, ifftSteps, preprocess-ifft, conjugated, zeros}
 use Rattle.ends.proofs.Cells.{length-ended, length-conjugated}
-use Rattle.spectrum.specs.Parts.{Forwardable, Invertible}
-use Rattle.spectrum.specs.Transforms.{dataOf, padOf, forwardRun, forwardOf, preparedOf, inverseRun, restored, inverseOf}
-use Rattle.spectrum.proofs.Scratch.{data-length, pad-length, both-data, both-pad, run-long}
-use Rattle.spectrum.proofs.Transforms.{plan-some, plan-twice, pairs-lent, held-long}
+use Rattle.transform.specs.Parts.{Forwardable, Invertible}
+use Rattle.transform.specs.Transforms.{dataOf, padOf, forwardRun, forwardOf, preparedOf, inverseRun, restored, inverseOf}
+use Rattle.transform.proofs.Scratch.{data-length, pad-length, both-data, both-pad, run-long}
+use Rattle.transform.proofs.Transforms.{plan-some, plan-twice, pairs-lent, held-long}
 use Rattle.finite.specs.Sizes.{AtMost, Both, Words}
 use Rattle.finite.proofs.Ends.{zero-most, fft-cell, ifft-cell, tabulated-words, conjugated-words}
 use Rattle.finite.proofs.Stages.{Ones}

@@ -12,7 +12,7 @@ use Rattle.plan.specs.declared.Record.{Record}
 use Rattle.twiddle.specs.Calls.{isWidth}
 use Rattle.floats.specs.declared.complex.Complex.{Complex}
 use Rattle.spectrum.specs.Calls.{binWords}
-use Rattle.spectrum.specs.Transforms.{Slices, dataOf, padOf}
+use Rattle.transform.specs.Transforms.{Slices, dataOf, padOf}
 
 -- finite, and at most q * 2 ^ k in magnitude
 abbrev pub AtMost : (q k : ℕ) → Float → Type 0

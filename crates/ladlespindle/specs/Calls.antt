@@ -16,9 +16,9 @@ use Rattle.twiddle.specs.declared.inner.ends.Direction.the-variants.{Forward, I
 use Rattle.kernel.specs.Floats.{stageOf as stageWords}
 use Rattle.stage.specs.Calls as Floats
 use Rattle.spectrum.specs.Calls.{forwardVerdict, inverseVerdict}
-use Rattle.spectrum.specs.Power.{powerFrom, powerVerdict, summed}
-use Rattle.spectrum.specs.Transforms.{forwardOf, inverseOf, Slices as Buffers}
-use Rattle.spectrum.specs.declared.Summed.{Summed as Sum}
+use Rattle.power.specs.Power.{powerFrom, powerVerdict, summed}
+use Rattle.transform.specs.Transforms.{forwardOf, inverseOf, Slices as Buffers}
+use Rattle.power.specs.declared.Summed.{Summed as Sum}
 use Rattle.remainder.specs.Calls.{stageVerdict, stageOf, runVerdict, runOf}
 use Rattle.ladlespindle.specs.declared.Answer.{Answer}
 use Rattle.ladlespindle.specs.declared.Summed.{Summed}

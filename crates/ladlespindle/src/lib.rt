@@ -329,7 +329,7 @@ pub extern "C" fn ladlespindle_inverse(
 pub extern "C" fn ladlespindle_power(spectrum: &[f32], lo: usize, hi: usize) -> Summed
     ensures { λ r. ⌜ GivesPower (now (spectrum .entry)) lo hi r ⌝ }
 {
-    let summed = spectrum::power(spectrum, lo, hi);
+    let summed = power::power(spectrum, lo, hi);
     let verdict = summed.verdict;
     Summed {
         number: verdict.number(),

@@ -1,8 +1,5 @@
 -- The laws that the proofs share, by subject, and the theorems; `Theorems` is the one to open first.
-pub mod Scratch
-pub mod Transforms
 pub mod Verdicts
-pub mod Sums
 pub mod Unique
 pub mod Theorems
 pub mod ShutOut

@@ -22,7 +22,7 @@ use Rattle.floats.specs.Complexes.{flat}
 use Rattle.floats.specs.Scan.{fits, firstUnfit}
 use Rattle.ends.specs.Ends.{+0, endCell, ended}
 use Rattle.spectrum.specs.Calls.{Forwards, forwardVerdict, lentVerdict}
-use Rattle.spectrum.specs.Transforms.{Slices, forwardRun, forwardOf}
+use Rattle.transform.specs.Transforms.{Slices, forwardRun, forwardOf}
 
 -- the plan of 2
 abbrev two : Record

@@ -19,8 +19,8 @@ use Rattle.twiddle.specs.Calls.{isWidth}
 use Rattle.floats.specs.Scan.{fits, firstUnfit}
 use Rattle.floats.proofs.Scan.{joined-first, joined-second}
 use Rattle.spectrum.specs.Calls.{binWords, lentVerdict}
-use Rattle.spectrum.specs.Parts.{Forwardable, Invertible}
-use Rattle.spectrum.proofs.Transforms.{plan-twice}
+use Rattle.transform.specs.Parts.{Forwardable, Invertible}
+use Rattle.transform.proofs.Transforms.{plan-twice}
 
 -- two tests of numbers that come to the same
 pub same-eqb : (a b c d : ℕ) → (a ≡ b → c ≡ d) → (c ≡ d → a ≡ b) → eqb a b ≡ eqb c d

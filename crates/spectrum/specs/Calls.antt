@@ -13,7 +13,7 @@ use Rattle.plan.specs.Record.{isPlanned}
 use Rattle.plan.specs.declared.Record.{Record}
 use Rattle.twiddle.specs.Calls.{isWidth}
 use Rattle.floats.specs.Scan.{firstUnfit}
-use Rattle.spectrum.specs.Transforms.{Slices, forwardOf, inverseOf}
+use Rattle.transform.specs.Transforms.{Slices, forwardOf, inverseOf}
 
 -- how many words the bins of a plan have
 abbrev pub binWords : Record → ℕ

@@ -1,5 +1,2 @@
 -- The definitions that contracts cite.
-pub mod Transforms
-pub mod Parts
 pub mod Calls
-pub mod Power

@@ -1,21 +1,12 @@
-// Spectra of real samples: forward, inverse and power.
+// Spectra of real samples: forward and inverse.
 pub mod inner;
 
 use inner::check::is_bins;
 use inner::check::lent;
-use inner::check::lent_bins;
-use inner::power::sum;
-use inner::transform;
 use plan::Record;
 use refusal::Verdict;
+use transform::inner::directions;
 ghost use Rattle.spectrum.specs.Calls.{Forwards, Inverts};
-ghost use Rattle.spectrum.specs.Power.{Powers};
-
-// What a sum of power answers.
-pub struct Summed {
-    pub verdict: Verdict,
-    pub power: f32,
-}
 
 // The spectrum of n samples: bins 0 to n / 2.
 pub fn forward(
@@ -43,7 +34,7 @@ pub fn forward(
         end_twiddles,
     ) {
         Verdict::Accepted => {
-            transform::forward(
+            directions::forward(
                 plan,
                 width,
                 input,
@@ -84,7 +75,7 @@ pub fn inverse(
         end_twiddles,
     ) {
         Verdict::Accepted => {
-            transform::inverse(
+            directions::inverse(
                 plan,
                 width,
                 input,
@@ -96,21 +87,5 @@ pub fn inverse(
             Verdict::Accepted
         }
         Verdict::Refused(why) => Verdict::Refused(why),
-    }
-}
-
-// The power of bins lo to hi of a spectrum.
-pub fn power(spectrum: &[f32], lo: usize, hi: usize) -> Summed
-    ensures { λ r. ⌜ Powers (now (spectrum .entry)) lo hi r ⌝ }
-{
-    match lent_bins(spectrum, lo, hi) {
-        Verdict::Accepted => Summed {
-            verdict: Verdict::Accepted,
-            power: sum(spectrum, lo, hi + 1 - lo),
-        },
-        Verdict::Refused(why) => Summed {
-            verdict: Verdict::Refused(why),
-            power: 0.0,
-        },
     }
 }

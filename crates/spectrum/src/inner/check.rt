@@ -12,7 +12,6 @@ ghost use Prim.Native.Nat.{ℕ, _+_, _*_};
 ghost use lib.Dec.{eqb};
 ghost use Rattle.floats.specs.Scan.{bound};
 ghost use Rattle.spectrum.specs.Calls.{sizeVerdict, numberVerdict, lentVerdict};
-ghost use Rattle.spectrum.specs.Power.{powerVerdict};
 
 // Whether so many words are those of h + 1 bins.
 pub fn is_bins(words: usize, h: usize) -> bool
@@ -108,31 +107,4 @@ pub fn lent(
         Verdict::Accepted => numbers(input, most, stage, end),
         Verdict::Refused(why) => Verdict::Refused(why),
     }
-}
-
-// Refusals 8, 14 and 9 of a sum of power, in this order.
-pub fn lent_bins(spectrum: &[f32], lo: usize, hi: usize) -> Verdict
-    ensures { λ r. ⌜ r ≡ powerVerdict (now (spectrum .entry)) lo hi ⌝ }
-{
-    let words = spectrum.len();
-    if words % 2 != 0 {
-        return Verdict::Refused(Refusal::Length(0));
-    }
-    if words < 4 {
-        return Verdict::Refused(Refusal::Length(0));
-    }
-    if words > 8194 {
-        return Verdict::Refused(Refusal::Length(0));
-    }
-    if hi < lo {
-        return Verdict::Refused(Refusal::Bins);
-    }
-    if hi >= words / 2 {
-        return Verdict::Refused(Refusal::Bins);
-    }
-    let large = first_unfit(spectrum, 281474976710656.0);
-    if large < words {
-        return Verdict::Refused(Refusal::Number(large));
-    }
-    Verdict::Accepted
 }
