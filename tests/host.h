@@ -1,4 +1,5 @@
-/* host.h: what the C tests share: checks that are counted, numbers that look random, the bits of a float, and lists of radices. */
+/* host.h: what the C tests share: checks that are counted, numbers that look random, the bits of a float, lists of radices, and
+ * places of twiddles. */
 #ifndef HOST_H
 #define HOST_H
 
@@ -72,6 +73,13 @@ static inline size_t digits(uint8_t *list, const char *text)
     size_t length = strlen(text);
     for (size_t i = 0; i < length; i++) list[i] = (uint8_t)(text[i] - '0');
     return length;
+}
+
+/* Where twiddle k of iteration i stands among those of a stage of m iterations of radix r, packed for a width. */
+static inline size_t standing(size_t m, size_t r, size_t width, size_t i, size_t k)
+{
+    if (i < m / width * width) return i / width * width * (r - 1) + (k - 1) * width + i % width;
+    return i * (r - 1) + k - 1;
 }
 
 #endif

@@ -59,13 +59,6 @@ static struct cell turned(struct cell a, size_t t, size_t r)
     }
 }
 
-/* Where twiddle k of iteration i stands among those of its stage. */
-static size_t place(size_t m, size_t r, size_t width, size_t i, size_t k)
-{
-    if (i < m / width * width) return i / width * width * (r - 1) + (k - 1) * width + i % width;
-    return i * (r - 1) + k - 1;
-}
-
 /* One stage of radix r at stride s. */
 static void one_stage(size_t h, size_t r, size_t s, size_t width, const struct cell *in, struct cell *out, const struct cell *twiddles)
 {
@@ -74,7 +67,7 @@ static void one_stage(size_t h, size_t r, size_t s, size_t width, const struct c
         struct cell x[8];
         for (size_t q = 0; q < r; q++) {
             x[q] = in[i + q * m];
-            if (q > 0 && s > 1) x[q] = mul(x[q], twiddles[place(m, r, width, i, q)]);
+            if (q > 0 && s > 1) x[q] = mul(x[q], twiddles[standing(m, r, width, i, q)]);
         }
         for (size_t p = 0; p < r; p++) {
             struct cell sum = x[0];

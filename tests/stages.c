@@ -36,13 +36,6 @@ static struct cell turned(struct cell a, size_t t, size_t r)
     }
 }
 
-/* Where twiddle k of iteration i stands among those of its stage. */
-static size_t place(size_t m, size_t r, size_t width, size_t i, size_t k)
-{
-    if (i < m / width * width) return i / width * width * (r - 1) + (k - 1) * width + i % width;
-    return i * (r - 1) + k - 1;
-}
-
 static void plain(ladlespindle_record plan, size_t number, size_t width, const float *in, float *out, const float *twiddles)
 {
     size_t r = plan.radices[number], m = plan.half / r, s = 1;
@@ -52,7 +45,7 @@ static void plain(ladlespindle_record plan, size_t number, size_t width, const f
         for (size_t q = 0; q < r; q++) {
             x[q] = (struct cell){in[2 * (i + q * m)], in[2 * (i + q * m) + 1]};
             if (q == 0 || number == 0) continue;
-            size_t at = place(m, r, width, i, q);
+            size_t at = standing(m, r, width, i, q);
             x[q] = mul(x[q], (struct cell){twiddles[2 * at], twiddles[2 * at + 1]});
         }
         for (size_t p = 0; p < r; p++) {

@@ -65,13 +65,6 @@ static void turns(void)
 
 /* ---- filling */
 
-/* Where twiddle k of iteration i stands among those of its stage. */
-static size_t place(size_t m, size_t r, size_t width, size_t i, size_t k)
-{
-    if (i < m / width * width) return i / width * width * (r - 1) + (k - 1) * width + i % width;
-    return i * (r - 1) + k - 1;
-}
-
 /* Words between two edges that no call may write. All are NaNs at first, and where nothing is written they must stay so bit for bit: the
  * proved promise does not tell one NaN from another. */
 struct words {
@@ -110,7 +103,7 @@ static void filled(ladlespindle_record plan, size_t width, int inverse, filler *
         size_t r = plan.radices[j], m = plan.half / r;
         for (size_t i = 0; j > 0 && i < m; i++)
             for (size_t k = 1; k < r; k++) {
-                size_t at = start + place(m, r, width, i, k);
+                size_t at = start + standing(m, r, width, i, k);
                 unsigned turn = (unsigned)(i % s * k * (PARTS / (s * r)));
                 wrong += bits(stage.at[2 * at]) != bits(cosine(turn)) || bits(stage.at[2 * at + 1]) != bits(negated_sine(turn)) || seen[at];
                 seen[at] = 1;

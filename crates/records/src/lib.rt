@@ -1,2 +1,0 @@
-// What the programs that replay recorded answers share.
-pub mod inner;
