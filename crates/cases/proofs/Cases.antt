@@ -15,7 +15,8 @@ use Rattle.refusal.specs.declared.Verdict.the-variants.{Accepted, Refused}
 use Rattle.refusal.proofs.Rows.{settled}
 use Rattle.counts.specs.Counts.{radix, stride, twiddleCount, twiddleStart, endCount, resultIn}
 use Rattle.merging.specs.Half.{halving, halved, half}
-use Rattle.radices.specs.Lists.{isRadix, product, firstThat, firstBad, indexOf, firstOver, countOf, padded, eqList}
+use Rattle.radices.specs.Lists.{isRadix, product, firstBad, indexOf, firstOver, countOf, padded, eqList}
+use Rattle.sequences.specs.Lists.{firstThat}
 use Rattle.merging.specs.Merging.{tally, applies, merge, firstRule, rulesUpTo, rules, mergedBy, merged, letters, sorted}
 use Rattle.plan.specs.Record.{planVerdict, factors, recordOf, refusedPlan, acceptedPlan, planned, Plans, inOrder, sized, isPlanned}
 use Rattle.plan.specs.declared.Planned.{Planned}

@@ -5,7 +5,8 @@ use mathlib.Core.Path.{_≡_, refl, ap, _∙_}
 use mathlib.Core.List.{List, [], _∷_}
 use Rattle.counts.specs.Counts.{radix, twiddleCount, twiddleStart, stageTwiddles, endCount, recordVerdict, counted, CountsStage, CountsEnd}
 use Rattle.merging.specs.Half.{halving, halved, half}
-use Rattle.radices.specs.Lists.{isRadix, product, firstThat, firstBad, indexOf, firstOver, countOf, padded, eqList}
+use Rattle.radices.specs.Lists.{isRadix, product, firstBad, indexOf, firstOver, countOf, padded, eqList}
+use Rattle.sequences.specs.Lists.{firstThat}
 use Rattle.merging.specs.Merging.{tally, applies, merge, firstRule, rulesUpTo, rules, mergedBy, merged, letters, sorted, marked}
 use Rattle.plan.specs.Record.{planVerdict, factors, recordOf, acceptedPlan, planned, Plans, inOrder, sized, isPlanned}
 use Rattle.counts.specs.declared.Counted.{Counted}

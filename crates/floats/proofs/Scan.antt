@@ -1,20 +1,19 @@
 -- The first number at which a test fails, step by step; where there is none; and that the test at a bound 2 ^ k is the definition's. Assumes nothing.
 use Prim.Native.Nat.{ℕ, zero, suc, _+_, _-_, _*_, _/_, _%_, _^_, _<_, _≤_}
-use native.Mathlib.Nat.{mul-one, one-mul, mul-pos, eq-or-lt-of-le, lt-of-not-le, le-of-suc-le-suc, add-zero, zero-add, suc-add}
-use native.Mathlib.Numerals.{add-one}
+use native.Mathlib.Nat.{mul-one, one-mul, mul-pos, eq-or-lt-of-le, lt-of-not-le, add-zero}
 use native.Mathlib.Omega.{arith}
 use mathlib.Core.Path.{_≡_, refl, sym, ap, subst, _∙_}
 use mathlib.Core.Logic.{inl, inr, dite}
 use native.Mathlib.Decide.{decLe, ℕ-discrete}
-use mathlib.Core.Bool.{Bool, true, false, cond, _&&_, _||_}
-use mathlib.Core.List.{List, [], _∷_, _++_}
+use mathlib.Core.Bool.{Bool, true, false, not, _&&_, _||_}
+use mathlib.Core.List.{List}
 use lib.Dec.{ltb, leb, eqb}
-use lib.ListN.{length, getD, drop, drop-of-length-le, length-append}
-use lib.Seq.{drop-cons}
+use lib.ListN.{length, getD, drop}
 use lib.Pow.{pow-pos, pow-lt}
 use lib.Ieee.{Float, nan, inf, fin, le, lt, eq, neg, up, down, binary32, ofBits}
 use lib.Ieee.Fits.{down-pos}
-use borrow.Author.Tests.{leb-true, lt-ltb, le-ltb, le-leb, lt-leb, eq-eqb, ne-eqb}
+use borrow.Author.Tests.{not-false, leb-true, lt-ltb, le-ltb, le-leb, lt-leb, eq-eqb, ne-eqb}
+use Rattle.sequences.proofs.First.{first-skip, first-same, none-passes, each-fails}
 use Rattle.floats.specs.declared.complex.Complex.{Complex}
 use Rattle.floats.specs.Complexes.{cell}
 use Rattle.floats.specs.Scan.{fits, firstNot, firstUnfit, bound, within, Passed, AllWithin}
@@ -22,7 +21,7 @@ use Rattle.floats.specs.Scan.{fits, firstNot, firstUnfit, bound, within,
 -- where the first i pass, the answer is i and the answer for the rest
 pub first-pass : (p : Float → Bool) (xs : List Float) (i : ℕ) → i < length xs → p (getD xs i nan) ≡ true
     → firstNot p xs ≡ i + firstNot p (drop i xs) → firstNot p xs ≡ i + 1 + firstNot p (drop (i + 1) xs)
-first-pass p xs i h t e = e ∙ ap (λ (l : List Float). i + firstNot p l) (drop-cons xs i nan h) ∙ simp (t, add-one) (omega arith)
+first-pass p xs i h t e = first-skip nan (λ (x : Float). not (p x)) xs i h (ap not t) e
 
 -- the same of the k-th number from i on
 pub pass-on : (b : Float) (xs : List Float) (i k : ℕ) → i + k < length xs → within b (getD xs (i + k) nan) ≡ true → Passed b xs (i + k) → Passed b xs (i + (k + 1))
@@ -51,66 +50,15 @@ pass-end b xs i n li ln lt w p =
     (pass-all b xs i (length xs - i) (omega arith) (λ k lk.
     subst (λ (j : ℕ). within b (getD xs j nan) ≡ true) {x = length xs - n + (i + k - (length xs - n))} {y = i + k} (omega arith) (w (i + k - (length xs - n)) (omega arith))) p)
 
-pub first-fail : (p : Float → Bool) (xs : List Float) (i : ℕ) → i < length xs → p (getD xs i nan) ≡ false
-    → firstNot p xs ≡ i + firstNot p (drop i xs) → firstNot p xs ≡ i
-first-fail p xs i h t e = e ∙ ap (λ (l : List Float). i + firstNot p l) (drop-cons xs i nan h) ∙ simp (t, add-zero)
-
-pub first-end : (p : Float → Bool) (xs : List Float) (i : ℕ) → i ≤ length xs → length xs ≤ i
-    → firstNot p xs ≡ i + firstNot p (drop i xs) → firstNot p xs ≡ length xs
-first-end p xs i g h e = e ∙ ap (λ (l : List Float). i + firstNot p l) (drop-of-length-le xs h) ∙ omega arith
-
--- the same test at each element, the same answer
-pub first-same : (p q : Float → Bool) (xs : List Float) → ((x : Float) → p x ≡ q x) → firstNot p xs ≡ firstNot q xs
-first-same p q [] h = refl
-first-same p q (x ∷ xs) h = rw (h x, first-same p q xs h)
-
--- the first number that fails in two rows joined: the first row's, or where all of that pass the second's
-pub joined-first : (f : Float → Bool) (xs ys : List Float) → firstNot f xs < length xs → firstNot f (xs ++ ys) ≡ firstNot f xs
-joined-first f [] ys l = absurd (omega arith)
-joined-first f (x ∷ xs) ys l = go (f x) l (λ m. joined-first f xs ys m)
-  where
-    go : (b : Bool) → cond b (suc (firstNot f xs)) 0 < suc (length xs) → (firstNot f xs < length xs → firstNot f (xs ++ ys) ≡ firstNot f xs)
-        → cond b (suc (firstNot f (xs ++ ys))) 0 ≡ cond b (suc (firstNot f xs)) 0
-    go true l e = ap suc (e (omega arith))
-    go false l e = refl
-
-pub joined-second : (f : Float → Bool) (xs ys : List Float) → length xs ≤ firstNot f xs → firstNot f (xs ++ ys) ≡ length xs + firstNot f ys
-joined-second f [] ys l = sym (zero-add (firstNot f ys))
-joined-second f (x ∷ xs) ys l = go (f x) l (λ m. joined-second f xs ys m)
-  where
-    go : (b : Bool) → suc (length xs) ≤ cond b (suc (firstNot f xs)) 0 → (length xs ≤ firstNot f xs → firstNot f (xs ++ ys) ≡ length xs + firstNot f ys)
-        → cond b (suc (firstNot f (xs ++ ys))) 0 ≡ suc (length xs) + firstNot f ys
-    go true l e = ap suc (e (omega arith)) ∙ sym (suc-add (length xs) (firstNot f ys))
-    go false l e = absurd (omega arith)
-
 -- ---- where there is none
 
 -- every number passes
 pub all-pass : (f : Float → Bool) (xs : List Float) → length xs ≤ firstNot f xs → (i : ℕ) → i < length xs → f (getD xs i nan) ≡ true
-all-pass f [] l i li = absurd (omega arith)
-all-pass f (x ∷ xs) l i li = go (f x) refl l i li (λ m j lj. all-pass f xs m j lj)
-  where
-    go : (b : Bool) → f x ≡ b → suc (length xs) ≤ cond b (suc (firstNot f xs)) 0 → (i : ℕ) → i < suc (length xs)
-        → (length xs ≤ firstNot f xs → (j : ℕ) → j < length xs → f (getD xs j nan) ≡ true) → f (getD (x ∷ xs) i nan) ≡ true
-    go true e l zero li rest = e
-    go true e l (suc i) li rest = rest (le-of-suc-le-suc l) i (le-of-suc-le-suc li)
-    go false e l i li rest = absurd (omega arith)
+all-pass f xs l i li = not-false _ (none-passes nan (λ (x : Float). not (f x)) xs l i li)
 
 -- and where every number passes there is none
 pub none-fails : (f : Float → Bool) (xs : List Float) → ((i : ℕ) → i < length xs → f (getD xs i nan) ≡ true) → length xs ≤ firstNot f xs
-none-fails f [] each = omega arith
-none-fails f (x ∷ xs) each =
-    let rest : length xs ≤ firstNot f xs = none-fails f xs (λ i li. each (suc i) (omega arith)) in
-    let here : f x ≡ true = each 0 (omega arith) in
-    rw here (omega arith)
-
--- in two rows joined there is none in either
-pub joined-none : (f : Float → Bool) (xs ys : List Float) → length (xs ++ ys) ≤ firstNot f (xs ++ ys) → (length xs ≤ firstNot f xs) × (length ys ≤ firstNot f ys)
-joined-none f xs ys l = pick (decLe (length xs) (firstNot f xs))
-  where
-    pick : Dec (length xs ≤ firstNot f xs) → (length xs ≤ firstNot f xs) × (length ys ≤ firstNot f ys)
-    pick (yes m) = (m, omega (arith, length-append xs ys, joined-second f xs ys m))
-    pick (no m) = absurd (omega (arith, length-append xs ys, joined-first f xs ys (lt-of-not-le m)))
+none-fails f xs each = each-fails nan (λ (x : Float). not (f x)) xs (λ i li. ap not (each i li))
 
 -- both words of a cell pass
 abbrev pub BothPass : (Float → Bool) → Complex → Type 0
@@ -187,7 +135,7 @@ power-below b k e t = powers k (ap (λ (x : Float). le x (bound 48)) (sym e) ∙
 -- so a scan at 2 ^ k finds the first number that does not fit
 pub first-unfit : (b : Float) (xs : List Float) (n : ℕ) → n ≡ firstNot (within b) xs → (k : ℕ) → b ≡ bound k → n ≡ firstUnfit k xs
 unfolding firstUnfit
-first-unfit b xs n e k f = e ∙ ap (λ (c : Float). firstNot (within c) xs) f ∙ first-same (within (bound k)) (fits k) xs (within-fits k)
+first-unfit b xs n e k f = e ∙ ap (λ (c : Float). firstNot (within c) xs) f ∙ first-same (λ (x : Float). not (within (bound k) x)) (λ (x : Float). not (fits k x)) xs (λ x. ap not (within-fits k x))
 
 -- of two tests the second decides where the first passes, and else the first
 pub second-decides : (p q : Bool) → p ≡ true → q ≡ (p && q)

@@ -1,12 +1,13 @@
 -- Which numbers are taken, and the first that is not. Assumes nothing.
-use Prim.Native.Nat.{ℕ, suc, _+_, _*_, _^_, _<_}
+use Prim.Native.Nat.{ℕ, _+_, _*_, _^_, _<_}
 use mathlib.Core.Path.{_≡_}
-use mathlib.Core.Bool.{Bool, true, false, cond, _&&_}
-use mathlib.Core.List.{List, [], _∷_}
+use mathlib.Core.Bool.{Bool, true, false, not, _&&_}
+use mathlib.Core.List.{List}
 use lib.Dec.{T, leb}
 use lib.ListN.{drop, getD}
 use lib.Ieee.{Float, nan, inf, fin, binary32, fits as Ieee·fits, le, mul, neg, up, down}
 use lib.IntN.{pos}
+use Rattle.sequences.specs.Lists.{firstThat}
 
 -- finite, and at most 2 ^ k in magnitude: a finite number is m * 2 ^ e in size, which is m * up e over down e
 unfoldable pub fits : (k : ℕ) → Float → Bool
@@ -16,8 +17,7 @@ fits k (fin s m e) = leb (m * up e) (2 ^ k * down e)
 
 -- the index of the first number at which the test fails, or the length
 abbrev pub firstNot : (Float → Bool) → List Float → ℕ
-firstNot f [] = 0
-firstNot f (x ∷ xs) = cond (f x) (suc (firstNot f xs)) 0
+firstNot f xs = firstThat (λ x. not (f x)) xs
 
 -- the index of the first number that is not finite or above 2 ^ k in magnitude, or the length
 unfoldable pub firstUnfit : (k : ℕ) → List Float → ℕ

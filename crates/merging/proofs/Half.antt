@@ -11,7 +11,8 @@ use lib.Dec.{eqb}
 use lib.ListN.{length, getD, take, drop, set, length-append, length-take, length-drop}
 use lib.Seq.{split-at, set-split}
 use borrow.Author.Tests.{ltb-true, ltb-false, eqb-true, eqb-false}
-use Rattle.radices.specs.Lists.{isRadix, product, firstThat, indexOf}
+use Rattle.radices.specs.Lists.{isRadix, product, indexOf}
+use Rattle.sequences.specs.Lists.{firstThat}
 use Rattle.radices.proofs.Lists.{product-append}
 use Rattle.radices.proofs.Products.{Radix, radix-is, Radical, radical-append, radical-parts}
 use Rattle.merging.specs.Half.{has, halving, halved, half}

@@ -12,7 +12,8 @@ use lib.Seq.{take-at, drop-cons}
 use borrow.Author.Tests.{eqb-true, eq-eqb, ne-eqb, lt-ltb, le-leb, lt-leb, leb-true}
 use Rattle.refusal.proofs.Rows.{deciding, accepted}
 use Rattle.refusal.specs.declared.Verdict.the-variants.{Accepted}
-use Rattle.radices.specs.Lists.{product, isRadix, firstThat, indexOf, firstBad, firstOver, largest, padded, eqList}
+use Rattle.radices.specs.Lists.{product, isRadix, indexOf, firstBad, firstOver, largest, padded, eqList}
+use Rattle.sequences.specs.Lists.{firstThat}
 use Rattle.merging.specs.Half.{half, halving, halved}
 use Rattle.merging.specs.Merging.{tally, total, merged, sorted}
 use Rattle.plan.specs.Record.{planVerdict, factors, recordOf, Plannable, inOrder, sized, isPlanned}

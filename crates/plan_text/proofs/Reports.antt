@@ -5,7 +5,8 @@ use mathlib.Core.Path.{_≡_, refl, sym, ap, _∙_}
 use mathlib.Core.List.{List, []}
 use lib.ListN.{length, take, replicate, length-append}
 use lib.Seq.{take-append-seam}
-use Rattle.radices.specs.Lists.{isRadix, product, firstThat, firstBad, firstOver, indexOf, countOf, padded}
+use Rattle.radices.specs.Lists.{isRadix, product, firstBad, firstOver, indexOf, countOf, padded}
+use Rattle.sequences.specs.Lists.{firstThat}
 use Rattle.merging.specs.Half.{halving, halved, half}
 use Rattle.merging.specs.Merging.{tally, applies, merge, firstRule, rulesUpTo, rules, mergedBy, merged, letters, sorted, marked}
 use Rattle.plan.specs.Record.{planVerdict, factors, recordOf, refusedPlan, acceptedPlan, planned}

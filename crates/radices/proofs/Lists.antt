@@ -4,32 +4,13 @@ use native.Mathlib.Nat.{add-zero, mul-one, one-mul, mul-assoc, mul-le-mul}
 use native.Mathlib.Numerals.{add-one}
 use native.Mathlib.Omega.{arith}
 use mathlib.Core.Path.{_≡_, refl, sym, ap, _∙_}
-use mathlib.Core.Bool.{Bool, true, false}
 use mathlib.Core.List.{List, [], _∷_, _++_, append-assoc}
 use lib.ListN.{length, length-set, getD, set, take, drop, replicate, length-append, length-drop, drop-of-length-le, length-replicate}
 use lib.Seq.{take-all, drop-cons, take-suc, take-append-seam, take-length, drop-append-add, set-append-left, set-at, paste, paste-suc}
 use borrow.Author.Tests.{eq-eqb, ne-eqb, lt-ltb, le-ltb}
 use Rattle.radices.specs.declared.Radices.{Radices}
 use Rattle.radices.specs.declared.inner.lists.Running.{Running}
-use Rattle.radices.specs.Lists.{product, firstThat, firstOver, largest, countOf, padded, listed, runningProduct}
-
--- the first i do not pass, and neither does the next
-pub first-skip : (p : ℕ → Bool) (xs : List ℕ) (i : ℕ) → i < length xs → p (getD xs i 0) ≡ false
-    → firstThat p xs ≡ i + firstThat p (drop i xs) → firstThat p xs ≡ i + 1 + firstThat p (drop (i + 1) xs)
-unfolding firstThat
-first-skip p xs i h t e = e ∙ ap (λ (l : List ℕ). i + firstThat p l) (drop-cons xs i 0 h) ∙ simp (t, add-one) (omega arith)
-
--- the first i do not pass, and the next does
-pub first-here : (p : ℕ → Bool) (xs : List ℕ) (i : ℕ) → i < length xs → p (getD xs i 0) ≡ true
-    → firstThat p xs ≡ i + firstThat p (drop i xs) → firstThat p xs ≡ i
-unfolding firstThat
-first-here p xs i h t e = e ∙ ap (λ (l : List ℕ). i + firstThat p l) (drop-cons xs i 0 h) ∙ simp (t, add-zero)
-
--- none passes
-pub first-none : (p : ℕ → Bool) (xs : List ℕ) (i : ℕ) → i ≤ length xs → length xs ≤ i
-    → firstThat p xs ≡ i + firstThat p (drop i xs) → firstThat p xs ≡ length xs
-unfolding firstThat
-first-none p xs i g h e = e ∙ ap (λ (l : List ℕ). i + firstThat p l) (drop-of-length-le xs h) ∙ omega arith
+use Rattle.radices.specs.Lists.{product, firstOver, largest, countOf, padded, listed, runningProduct}
 
 -- an element counts, or does not
 pub count-hit : (v : ℕ) (xs : List ℕ) (n i : ℕ) → i < length xs → getD xs i 0 ≡ v

@@ -11,7 +11,9 @@ use lib.Dec.{eqb, ltb}
 use lib.Pow.{pow-add, pow-lt}
 use lib.ListN.{length, replicate}
 use borrow.Author.Tests.{eqb-true, le-ltb, ltb-false}
-use Rattle.radices.specs.Lists.{isRadix, product, firstThat, firstBad, firstOver, largest, runningProduct}
+use Rattle.sequences.proofs.First.{first-most}
+use Rattle.radices.specs.Lists.{isRadix, product, firstBad, firstOver, largest, runningProduct}
+use Rattle.sequences.specs.Lists.{firstThat}
 use Rattle.radices.proofs.Lists.{running-all, running-place}
 use Rattle.radices.specs.declared.inner.lists.Running.{Running}
 
@@ -138,15 +140,6 @@ pow-eight (suc c) =
     pow-suc 8 c ∙ ap (λ (n : ℕ). n * 8) (pow-eight c) ∙ sym (pow-add 2 (3 * c) 3) ∙ ap (λ (n : ℕ). 2 ^ n) {x = 3 * c + 3} {y = 3 * suc c} (omega arith)
 
 -- ---- what an accepted list is
-
-first-most : (p : ℕ → Bool) (xs : List ℕ) → firstThat p xs ≤ length xs
-unfolding firstThat
-first-most p [] = omega arith
-first-most p (b ∷ bs) = go (p b) (first-most p bs)
-  where
-    go : (t : Bool) → firstThat p bs ≤ length bs → cond t 0 (suc (firstThat p bs)) ≤ suc (length bs)
-    go true h = omega arith
-    go false h = omega arith
 
 over-most : (p : ℕ) (xs : List ℕ) → firstOver p xs ≤ length xs
 unfolding firstOver

@@ -4,6 +4,7 @@ use mathlib.Core.Bool.{Bool, true, false, cond, not, _&&_, _||_}
 use mathlib.Core.List.{List, [], _∷_, _++_}
 use lib.Dec.{eqb, ltb}
 use lib.ListN.{length, take, replicate}
+use Rattle.sequences.specs.Lists.{firstThat}
 use Rattle.radices.specs.declared.Radices.{Radices}
 use Rattle.radices.specs.declared.inner.lists.Running.{Running}
 
@@ -15,11 +16,6 @@ isRadix b = eqb b 2 || eqb b 3 || eqb b 4 || eqb b 5 || eqb b 7 || eqb b 8
 unfoldable pub product : List ℕ → ℕ
 product [] = 1
 product (b ∷ bs) = b * product bs
-
--- the index of the first element that passes the test, or the length
-unfoldable pub firstThat : (ℕ → Bool) → List ℕ → ℕ
-firstThat p [] = 0
-firstThat p (b ∷ bs) = cond (p b) 0 (suc (firstThat p bs))
 
 -- the index of the first byte that is no radix, or the length
 unfoldable pub firstBad : List ℕ → ℕ

@@ -1,16 +1,15 @@
 -- Laws of the verdict on what is lent: what is accepted, and what an accepted call tells. Assumes nothing.
-use Prim.Native.Nat.{ℕ, zero, suc, _%_, _^_, _<_, _≤_}
-use native.Mathlib.Omega.{arith}
-use mathlib.Core.Path.{_≡_, refl}
-use mathlib.Core.Bool.{Bool, true, false, not, cond}
-use mathlib.Core.List.{List, [], _∷_}
+use Prim.Native.Nat.{ℕ, _%_, _^_, _<_, _≤_}
+use mathlib.Core.Path.{_≡_, ap}
+use mathlib.Core.Bool.{true, false, not}
+use mathlib.Core.List.{List}
 use lib.Dec.{ltb}
-use lib.ListN.{length}
-use borrow.Author.Tests.{lt-ltb, le-ltb, ltb-true}
+use lib.ListN.{length, getD}
+use borrow.Author.Tests.{lt-ltb, le-ltb, ltb-true, not-false}
 use Rattle.refusal.specs.declared.Refusal.the-variants.{NotPlanned, Stage}
 use Rattle.refusal.specs.declared.Verdict.the-variants.{Accepted, Refused}
 use Rattle.refusal.proofs.Rows.{deciding, accepted}
-use Rattle.radices.specs.Lists.{firstThat}
+use Rattle.sequences.proofs.First.{none-passes, each-fails}
 use Rattle.plan.specs.Record.{isPlanned}
 use Rattle.plan.specs.declared.Record.{Record}
 use Rattle.remainder.specs.Residues.{Under}
@@ -26,17 +25,8 @@ all-taken h m w xs room a b d e f k g l = search deciding depth 8
 
 -- where none is too large, all are below m
 none-large : (m : ℕ) (xs : List ℕ) → length xs ≤ firstLarge m xs → Under m (length xs) xs
-unfolding firstLarge firstThat
-none-large m [] h q l = absurd (omega arith)
-none-large m (x ∷ xs) h q l = go (ltb x m) refl h (none-large m xs) q l
-  where
-    rest : ℕ
-    rest = firstThat (λ (y : ℕ). not (ltb y m)) xs
-
-    go : (b : Bool) → ltb x m ≡ b → suc (length xs) ≤ cond (not b) 0 (suc rest) → (length xs ≤ rest → Under m (length xs) xs) → Under m (suc (length xs)) (x ∷ xs)
-    go true e h f zero l = ltb-true x m e
-    go true e h f (suc q) l = f (omega arith) q (omega arith)
-    go false e h f q l = absurd (omega arith)
+unfolding firstLarge
+none-large m xs h q l = ltb-true (getD xs q 0) m (not-false _ (none-passes 0 (λ (x : ℕ). not (ltb x m)) xs h q l))
 
 pub taken : (p : Record) (m w : ℕ) (xs : List ℕ) (room : ℕ) → isPlanned p ≡ true → lentVerdict (p .half) m w xs room ≡ Accepted → Lent p m w xs × (room ≡ p .half)
 unfolding lentVerdict
@@ -59,8 +49,5 @@ module _ (p : Record) (j m w : ℕ) (xs : List ℕ) where
 
 -- remainders are taken
 pub none-refused : (m : ℕ) (xs : List ℕ) → Under m (length xs) xs → length xs ≤ firstLarge m xs
-unfolding firstLarge firstThat
-none-refused m [] u = omega arith
-none-refused m (x ∷ xs) u =
-    let rest = none-refused m xs (λ q l. u (suc q) (omega arith)) in
-    simp (lt-ltb x m (u 0 (omega arith))) (omega (arith, rest))
+unfolding firstLarge
+none-refused m xs u = each-fails 0 (λ (x : ℕ). not (ltb x m)) xs (λ q l. ap not (lt-ltb (getD xs q 0) m (u q l)))

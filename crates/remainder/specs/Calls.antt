@@ -8,7 +8,7 @@ use lib.ListN.{length}
 use Rattle.refusal.specs.Refusal.{Row, _⇒_, verdict, Settles}
 use Rattle.refusal.specs.declared.Refusal.the-variants.{NotPlanned, Length, Modulus, Base, Remainder, Stage}
 use Rattle.refusal.specs.declared.Verdict.{Verdict}
-use Rattle.radices.specs.Lists.{firstThat}
+use Rattle.sequences.specs.Lists.{firstThat}
 use Rattle.plan.specs.Record.{isPlanned}
 use Rattle.plan.specs.declared.Record.{Record}
 use Rattle.schedule.specs.Buffers.{Two, driven}

@@ -7,6 +7,7 @@ use mathlib.Core.List.{List, [], _∷_}
 use lib.Dec.{eqb}
 use lib.Ieee.{Float, nan, inf, fin, binary32, ofBits, add}
 use lib.ListN.{getD}
+use Rattle.sequences.specs.Lists.{firstThat}
 use Rattle.refusal.specs.declared.Verdict.{Verdict}
 use Rattle.refusal.specs.declared.Verdict.the-variants.{Accepted}
 use Rattle.refusal.proofs.Rows.{settled}
@@ -40,11 +41,11 @@ abbrev room : Slices
 room = (+0 ∷ +0 ∷ +0 ∷ +0 ∷ [], +0 ∷ +0 ∷ +0 ∷ +0 ∷ +0 ∷ +0 ∷ +0 ∷ +0 ∷ +0 ∷ +0 ∷ +0 ∷ +0 ∷ [])
 
 pulse-taken : forwardVerdict two 1 pulse 4 12 [] [] ≡ Accepted
-unfolding lentVerdict isPlanned inOrder sized product tally sorted padded eqList countOf isWidth twiddleStart endCount firstUnfit fits ofBits
+unfolding lentVerdict isPlanned inOrder sized product tally sorted padded eqList countOf isWidth twiddleStart endCount firstUnfit firstThat fits ofBits
 pulse-taken = refl
 
 silence-taken : forwardVerdict two 1 silence 4 12 [] [] ≡ Accepted
-unfolding lentVerdict isPlanned inOrder sized product tally sorted padded eqList countOf isWidth twiddleStart endCount firstUnfit fits ofBits
+unfolding lentVerdict isPlanned inOrder sized product tally sorted padded eqList countOf isWidth twiddleStart endCount firstUnfit firstThat fits ofBits
 silence-taken = refl
 
 -- the first number of the spectrum

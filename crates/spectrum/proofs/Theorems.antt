@@ -3,7 +3,7 @@
 -- equal is in proofs/Unique.antt. Assumes nothing.
 use Prim.Native.Nat.{ℕ, _-_, _*_, _<_}
 use mathlib.Core.Path.{_≡_, sym, ap, _∙_}
-use mathlib.Core.Bool.{Bool, true}
+use mathlib.Core.Bool.{Bool, true, not}
 use mathlib.Core.List.{List, _++_}
 use lib.Ieee.{Float}
 use lib.ListN.{length}
@@ -21,7 +21,7 @@ use Rattle.twiddle.specs.Calls.{isWidth}
 use Rattle.twiddle.proofs.Verdicts.{width-bounds}
 use Rattle.floats.specs.Complexes.{paired, flat}
 use Rattle.floats.specs.Scan.{fits, firstUnfit}
-use Rattle.floats.proofs.Scan.{joined-none}
+use Rattle.sequences.proofs.First.{joined-none}
 use Rattle.stage.specs.Runs.{stageIn, runOf, lentTo, Alike}
 use Rattle.stage.proofs.Accepted.{all-fit-alike}
 use Rattle.stage.proofs.Same.{plan-agree, stage-lent}
@@ -58,7 +58,7 @@ unfolding firstUnfit lentVerdict
 accepted-any-width p W W′ input output scratch k xs stage stage′ end accepted wide same alike =
     let t = lent-taken p W input output scratch k xs stage end accepted in
     let lent = same ∙ t .stages in
-    let fit = joined-none (fits 0) stage end (t .twiddles) in
+    let fit = joined-none (λ (x : Float). not (fits 0 x)) stage end (t .twiddles) in
     let fit′ = all-fit-alike p (t .planned) W W′ (width-bounds W (t .width) .0) (width-bounds W′ wide .0) stage stage′ (t .stages) lent alike (fit .0) in
     let both = all-fit stage′ end fit′ (fit .1) in
     sym (search deciding depth 14)

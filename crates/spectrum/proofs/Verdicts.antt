@@ -17,7 +17,7 @@ use Rattle.plan.specs.Record.{isPlanned}
 use Rattle.plan.specs.declared.Record.{Record}
 use Rattle.twiddle.specs.Calls.{isWidth}
 use Rattle.floats.specs.Scan.{fits, firstUnfit}
-use Rattle.floats.proofs.Scan.{joined-first, joined-second}
+use Rattle.sequences.proofs.First.{joined-first, joined-second}
 use Rattle.spectrum.specs.Calls.{binWords, lentVerdict}
 use Rattle.transform.specs.Parts.{Forwardable, Invertible}
 use Rattle.transform.proofs.Transforms.{plan-twice}
@@ -35,11 +35,11 @@ same-eqb a b c d f g = pick (ℕ-discrete a b)
 module _ (stage end : List Float) (n : ℕ) (e : n ≡ firstUnfit 0 stage) where
   pub in-stages : n < length stage → (n ≡ firstUnfit 0 (stage ++ end)) × (n < length (stage ++ end))
   unfolding firstUnfit
-  in-stages l = (e ∙ sym (joined-first (fits 0) stage end (rw (← e) l)), omega (arith, l, length-append stage end))
+  in-stages l = (e ∙ sym (joined-first (λ (x : Float). not (fits 0 x)) stage end (rw (← e) l)), omega (arith, l, length-append stage end))
 
   pub in-ends : length stage ≤ n → (i : ℕ) → i ≡ firstUnfit 0 end → length stage + i ≡ firstUnfit 0 (stage ++ end)
   unfolding firstUnfit
-  in-ends l i f = sym (joined-second (fits 0) stage end (rw (← e) l) ∙ ap (λ (u : ℕ). length stage + u) (sym f))
+  in-ends l i f = sym (joined-second (λ (x : Float). not (fits 0 x)) stage end (rw (← e) l) ∙ ap (λ (u : ℕ). length stage + u) (sym f))
 
 -- where none of either is, none is of both
 pub all-fit : (stage end : List Float) → length stage ≤ firstUnfit 0 stage → length end ≤ firstUnfit 0 end → length (stage ++ end) ≤ firstUnfit 0 (stage ++ end)

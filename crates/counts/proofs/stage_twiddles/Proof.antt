@@ -1,4 +1,4 @@
--- `plan::stage_twiddles` meets its contract. Assumes nothing.
+-- `counts::stage_twiddles` meets its contract. Assumes nothing.
 use mathlib.Core.Path.{sym}
 use Rattle.refusal.proofs.Rows.{accepted}
 use Rattle.counts.proofs.Counts.{record-refused, record-accepted}

@@ -1,4 +1,4 @@
--- `plan::inner::stages::end_count` meets its contract. Assumes nothing.
+-- `counts::inner::stages::end_count` meets its contract. Assumes nothing.
 use borrow.Author.Tests.{eq-eqb, ne-eqb}
 use Rattle.counts.specs.Counts.{endCount}
 use borrow.Author.Needs.{needs}

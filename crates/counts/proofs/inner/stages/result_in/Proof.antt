@@ -1,4 +1,4 @@
--- `plan::inner::stages::result_in` meets its contract. Assumes nothing.
+-- `counts::inner::stages::result_in` meets its contract. Assumes nothing.
 use borrow.Author.Tests.{eq-eqb, ne-eqb}
 use Rattle.counts.specs.Counts.{resultIn}
 use Rattle.counts.proofs.inner.stages.result_in.Statement.{statement}

@@ -1,4 +1,4 @@
--- `plan::inner::stages::stride` meets its contract. Assumes nothing.
+-- `counts::inner::stages::stride` meets its contract. Assumes nothing.
 use Prim.Native.Nat.{ℕ, _+_, _*_, _-_, _≤_}
 use mathlib.Core.Path.{sym, ap, _∙_, _≡_}
 use lib.ListN.{getD}

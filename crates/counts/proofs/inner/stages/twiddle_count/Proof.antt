@@ -1,4 +1,4 @@
--- `plan::inner::stages::twiddle_count` meets its contract. Assumes nothing.
+-- `counts::inner::stages::twiddle_count` meets its contract. Assumes nothing.
 use Rattle.plan.proofs.Bounds.{plan-order, plan-radix-bounds}
 use Rattle.counts.proofs.Counts.{count-later, count-small, count-first}
 use borrow.Author.Needs.{needs}

@@ -1,4 +1,4 @@
--- `plan::inner::stages::twiddle_start` meets its contract. Assumes nothing.
+-- `counts::inner::stages::twiddle_start` meets its contract. Assumes nothing.
 use mathlib.Core.Path.{ap, _∙_, _≡_}
 use Rattle.plan.proofs.Bounds.{plan-order}
 use Rattle.counts.proofs.Counts.{count-small, start-next, start-none}

@@ -1,14 +1,17 @@
 -- `floats::inner::scan::first_unfit` meets its contract. Assumes nothing.
 use borrow.Author.Tests.{not-true, not-false}
 use Rattle.floats.specs.Scan.{within, bound, Passed}
-use Rattle.floats.proofs.Scan.{first-pass, first-fail, first-end, first-unfit, power-below}
+use Rattle.sequences.proofs.First.{first-here, first-none}
+use Rattle.floats.proofs.Scan.{first-pass, first-unfit, power-below}
 use Rattle.floats.proofs.Squares.{squares-tell}
 use lib.ListN.{length}
 use Prim.Native.Nat.{ℕ, _≤_, _-_}
 use native.Mathlib.Nat.{zero-add}
 use native.Mathlib.Omega.{arith}
 use mathlib.Core.Logic.{⊎-elim}
-use mathlib.Core.Path.{_≡_, sym, subst, _∙_}
+use mathlib.Core.Path.{_≡_, sym, ap, subst, _∙_}
+use mathlib.Core.Bool.{not}
+use lib.Ieee.{Float, nan}
 use borrow.Author.Needs.{needs}
 use Rattle.floats.proofs.inner.scan.first_unfit.Statement.{statement}
 use Rattle.floats.proofs.inner.scan.first_unfit.Tie as tie
@@ -41,13 +44,13 @@ returns : tie.Need-returns Inv-loop μ-loop
 returns c =
     let a = c .before .before .before .before .args in
     let l = c .before .loop in
-    λ k e. first-unfit (a .b) (a .xs .now) _ (sym (first-end (within (a .b)) (a .xs .now) (l .i) (search needs) (search needs) (l .inv .1 k e))) k e
+    λ k e. first-unfit (a .b) (a .xs .now) _ (sym (first-none (λ (x : Float). not (within (a .b) x)) (a .xs .now) (l .i) (search needs) (search needs) (l .inv .1 k e))) k e
 
 returns-2 : tie.Need-returns-2 Inv-loop μ-loop
 returns-2 c =
     let l = c .before .before .before .before .before .loop in
     let a = c .before .before .before .before .before .before .before .before .args in
-    λ k e. first-unfit (a .b) (a .xs .now) _ (sym (first-fail (within (a .b)) (a .xs .now) (l .i) (search needs) (sym (c .before .within .ensures) ∙ not-true _ (c .if3 .taken)) (l .inv .1 k e))) k e
+    λ k e. first-unfit (a .b) (a .xs .now) _ (sym (first-here nan (λ (x : Float). not (within (a .b) x)) (a .xs .now) (l .i) (search needs) (ap not (sym (c .before .within .ensures) ∙ not-true _ (c .if3 .taken))) (l .inv .1 k e))) k e
 
 pub first-unfit-spec : {M : Type 1} → statement M
 first-unfit-spec =

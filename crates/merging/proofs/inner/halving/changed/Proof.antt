@@ -1,4 +1,4 @@
--- `plan::inner::halving::changed` meets its contract. Assumes nothing.
+-- `merging::inner::halving::changed` meets its contract. Assumes nothing.
 use Prim.Native.Nat.{ℕ}
 use mathlib.Core.Path.{sym, ap, _∙_}
 use mathlib.Core.List.{List}

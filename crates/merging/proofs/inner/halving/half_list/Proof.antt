@@ -1,4 +1,4 @@
--- `plan::inner::halving::half_list` meets its contract. Assumes nothing.
+-- `merging::inner::halving::half_list` meets its contract. Assumes nothing.
 use mathlib.Core.Path.{refl, sym, ap, _∙_}
 use Rattle.radices.specs.Lists.{listed}
 use Rattle.radices.proofs.Lists.{listed-is, paste-empty}

@@ -1,4 +1,4 @@
--- `plan::inner::halving::which` meets its contract. Assumes nothing.
+-- `merging::inner::halving::which` meets its contract. Assumes nothing.
 use borrow.Author.Needs.{needs}
 use Rattle.merging.specs.Half.{halving}
 use borrow.Author.Tests.{lt-ltb, le-ltb}

@@ -1,4 +1,4 @@
--- `plan::inner::halving::without` meets its contract. Assumes nothing.
+-- `merging::inner::halving::without` meets its contract. Assumes nothing.
 use Prim.Native.Nat.{_+_, _<_}
 use mathlib.Core.Path.{_≡_, refl, sym, ap, _∙_}
 use mathlib.Core.List.{_++_}

@@ -1,4 +1,4 @@
--- `plan::inner::merging::ascending` meets its contract. Assumes nothing.
+-- `merging::inner::merging::ascending` meets its contract. Assumes nothing.
 use Rattle.merging.proofs.Merging.{sorted-filled}
 use borrow.Author.Needs.{needs}
 use Rattle.merging.proofs.inner.merging.ascending.Statement.{statement}

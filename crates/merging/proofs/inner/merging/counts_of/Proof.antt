@@ -1,4 +1,4 @@
--- `plan::inner::merging::counts_of` meets its contract. Assumes nothing.
+-- `merging::inner::merging::counts_of` meets its contract. Assumes nothing.
 use Rattle.merging.proofs.Merging.{tally-is}
 use borrow.Author.Needs.{needs}
 use Rattle.merging.proofs.inner.merging.counts_of.Statement.{statement}

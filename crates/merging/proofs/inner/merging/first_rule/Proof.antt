@@ -1,4 +1,4 @@
--- `plan::inner::merging::first_rule` meets its contract. Assumes nothing.
+-- `merging::inner::merging::first_rule` meets its contract. Assumes nothing.
 use mathlib.Core.Path.{sym}
 use mathlib.Core.Logic.{⊎-elim, inl, inr}
 use borrow.Author.Tests.{leb-true, leb-false}

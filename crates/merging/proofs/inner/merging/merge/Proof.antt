@@ -1,4 +1,4 @@
--- `plan::inner::merging::merge` meets its contract. Assumes nothing.
+-- `merging::inner::merging::merge` meets its contract. Assumes nothing.
 use mathlib.Core.Path.{sym, ap}
 use Rattle.merging.specs.Merging.{merge}
 use Rattle.merging.specs.declared.inner.merging.Rule.{Rule}

@@ -1,4 +1,4 @@
--- `plan::inner::merging::merge_all` meets its contract. Assumes nothing.
+-- `merging::inner::merging::merge_all` meets its contract. Assumes nothing.
 use Rattle.merging.proofs.Merging.{low, SoFar, so-far-none, so-far-again, so-far-fits, so-far-end}
 use borrow.Author.Needs.{needs}
 use native.Mathlib.Omega.{arith}

@@ -1,4 +1,4 @@
--- `plan::inner::merging::size` meets its contract. Assumes nothing.
+-- `merging::inner::merging::size` meets its contract. Assumes nothing.
 use Rattle.merging.proofs.Merging.{length-sorted}
 use borrow.Author.Needs.{needs}
 use native.Mathlib.Omega.{arith}

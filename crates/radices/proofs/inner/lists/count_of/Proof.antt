@@ -1,4 +1,4 @@
--- `plan::inner::lists::count_of` meets its contract. Assumes nothing.
+-- `radices::inner::lists::count_of` meets its contract. Assumes nothing.
 use Prim.Native.Nat.{_+_, _-_, _≤_}
 use mathlib.Core.Path.{_≡_}
 use mathlib.Core.Logic.{⊎-elim}

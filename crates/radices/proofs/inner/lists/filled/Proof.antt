@@ -1,4 +1,4 @@
--- `plan::inner::lists::filled` meets its contract. Assumes nothing.
+-- `radices::inner::lists::filled` meets its contract. Assumes nothing.
 use Prim.Native.Nat.{ℕ, _+_, _-_, _<_, _≤_}
 use mathlib.Core.Path.{_≡_, ap, _∙_}
 use lib.ListN.{length, replicate, length-replicate, getD-replicate}

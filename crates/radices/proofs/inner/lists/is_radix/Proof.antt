@@ -1,4 +1,4 @@
--- `plan::inner::lists::is_radix` meets its contract. Assumes nothing.
+-- `radices::inner::lists::is_radix` meets its contract. Assumes nothing.
 use borrow.Author.Tests.{ne-eqb}
 use Rattle.radices.specs.Lists.{isRadix}
 use Rattle.radices.proofs.inner.lists.is_radix.Statement.{statement}

@@ -1,4 +1,4 @@
--- `plan::inner::lists::running_product` meets its contract. Assumes nothing.
+-- `radices::inner::lists::running_product` meets its contract. Assumes nothing.
 use Prim.Native.Nat.{ℕ, _+_, _-_, _*_, _≤_}
 use mathlib.Core.Path.{_≡_, refl, sym, ap, _∙_}
 use lib.ListN.{length, getD, take, drop}

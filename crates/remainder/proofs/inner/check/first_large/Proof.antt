@@ -6,8 +6,8 @@ use lib.Dec.{ltb}
 use lib.ListN.{length, drop}
 use Prim.Native.Nat.{ℕ, _+_, _-_, _≤_}
 use borrow.Author.Tests.{lt-ltb, le-ltb}
-use Rattle.radices.specs.Lists.{firstThat}
-use Rattle.radices.proofs.Lists.{first-skip, first-here, first-none}
+use Rattle.sequences.specs.Lists.{firstThat}
+use Rattle.sequences.proofs.First.{first-skip, first-here, first-none}
 use Rattle.remainder.specs.Calls.{firstLarge}
 use Rattle.remainder.proofs.inner.check.first_large.Statement.{statement}
 use Rattle.remainder.proofs.inner.check.first_large.Tie as tie
@@ -23,7 +23,7 @@ loop-again c =
     let a = c .before .before .before .before .args in
     let l = c .before .before .before .loop in
     let p : ℕ → Bool = λ x. not (ltb x (a .m)) in
-    (search needs, first-skip p (a .list .now) (l .i) (search needs) (ap not (lt-ltb _ (a .m) (c .if2 .left))) (l .inv .1))
+    (search needs, first-skip 0 p (a .list .now) (l .i) (search needs) (ap not (lt-ltb _ (a .m) (c .if2 .left))) (l .inv .1))
 
 returns : tie.Need-returns Inv-loop μ-loop
 unfolding firstLarge
@@ -39,7 +39,7 @@ returns-2 c =
     let a = c .before .before .before .before .args in
     let l = c .before .before .before .loop in
     let p : ℕ → Bool = λ x. not (ltb x (a .m)) in
-    sym (first-here p (a .list .now) (l .i) (search needs) (ap not (le-ltb _ (a .m) (c .if2 .taken))) (l .inv .1))
+    sym (first-here 0 p (a .list .now) (l .i) (search needs) (ap not (le-ltb _ (a .m) (c .if2 .taken))) (l .inv .1))
 
 pub first-large-spec : {M : Type 1} → statement M
 first-large-spec =

@@ -6,14 +6,6 @@ use Rattle.remainder.specs.Calls.{lentVerdict}
 use Rattle.remainder.proofs.inner.check.lent.Statement.{statement}
 use Rattle.remainder.proofs.inner.check.lent.Tie as tie
 
-returns : tie.Need-returns
-unfolding lentVerdict
-returns c = search deciding
-
-returns-2 : tie.Need-returns-2
-unfolding lentVerdict
-returns-2 c = search deciding
-
 returns-3 : tie.Need-returns-3
 unfolding lentVerdict
 returns-3 c = let apart = rw (c .before .power .ensures) at (c .if3 .taken) in search (deciding, apart) depth 8
@@ -35,6 +27,8 @@ unfolding lentVerdict
 returns-7 c = let one = sym (c .before .before .before .before .before .power .ensures) ∙ c .before .before .before .before .if3 .left in search (deciding, one) depth 10
 
 pub lent-spec : {M : Type 1} → statement M
+unfolding lentVerdict
 lent-spec =
     tie.close
-    (tie.spec returns returns-2 (λ c κs. search needs) returns-3 returns-4 returns-5 (λ c κs. search needs) returns-6 returns-7)
+    (tie.spec (λ c. search deciding) (λ c. search deciding) (λ c κs. search needs) returns-3 returns-4 returns-5 (λ c κs. search needs)
+    returns-6 returns-7)

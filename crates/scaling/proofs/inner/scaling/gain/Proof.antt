@@ -1,4 +1,4 @@
--- `plan::inner::scaling::gain` meets its contract. Assumes nothing.
+-- `scaling::inner::scaling::gain` meets its contract. Assumes nothing.
 use Prim.Native.Nat.{_-_, _*_, _^_, _<_, _≤_}
 use native.Mathlib.Nat.{one-mul}
 use mathlib.Core.Path.{_≡_, sym}

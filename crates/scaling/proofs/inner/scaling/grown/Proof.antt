@@ -1,4 +1,4 @@
--- `plan::inner::scaling::grown` meets its contract. Assumes nothing.
+-- `scaling::inner::scaling::grown` meets its contract. Assumes nothing.
 use Prim.Native.Nat.{_/_}
 use mathlib.Core.Path.{refl, _∙_}
 use Rattle.radices.proofs.Lists.{paste-empty, filled-padded}

@@ -1,4 +1,4 @@
--- `plan::inner::scaling::power` meets its contract. Assumes nothing.
+-- `scaling::inner::scaling::power` meets its contract. Assumes nothing.
 use Prim.Native.Nat.{ℕ, _-_, _*_, _^_, _≤_}
 use mathlib.Core.Path.{_≡_, refl, ap, _∙_}
 use Rattle.scaling.proofs.Scaling.{power-small, power-next}

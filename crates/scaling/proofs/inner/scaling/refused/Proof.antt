@@ -1,4 +1,4 @@
--- `plan::inner::scaling::refused` meets its contract. Assumes nothing.
+-- `scaling::inner::scaling::refused` meets its contract. Assumes nothing.
 use mathlib.Core.Path.{refl}
 use Rattle.scaling.specs.Scaling.{refusedScaling}
 use Rattle.scaling.proofs.inner.scaling.refused.Statement.{statement}

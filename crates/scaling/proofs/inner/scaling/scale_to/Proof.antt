@@ -1,4 +1,4 @@
--- `plan::inner::scaling::scale_to` meets its contract. Assumes nothing.
+-- `scaling::inner::scaling::scale_to` meets its contract. Assumes nothing.
 use mathlib.Core.Path.{sym, _∙_}
 use Rattle.scaling.proofs.Scaling.{scale-in, scale-out}
 use borrow.Author.Needs.{needs}

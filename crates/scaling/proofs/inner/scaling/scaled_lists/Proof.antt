@@ -1,4 +1,4 @@
--- `plan::inner::scaling::scaled_lists` meets its contract. Assumes nothing.
+-- `scaling::inner::scaling::scaled_lists` meets its contract. Assumes nothing.
 use borrow.Author.Needs.{needs}
 use lib.ListN.{length}
 use Rattle.scaling.proofs.Scaling.{check-base, base-product, base-bounds, base-fits, in-gain, in-few, in-small, power-fits, scale-large, scale-accepted}

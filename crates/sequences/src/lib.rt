@@ -1,0 +1,1 @@
+// What many crates say of lists: definitions and laws, and no code.
