@@ -50,10 +50,10 @@ use Rattle.accuracy.proofs.Sums.{sum-equal, sumN-least}
 use Rattle.accuracy.proofs.Turns.{HalfClose}
 
 -- a run makes as many cells as it is asked for
-pub run-long : (lent : ℕ → ℕ → ℕ → Complex) (h : ℕ) (rs : List ℕ) (j : ℕ) (xs : List Complex) → length xs ≡ h → length (run (floats lent) h rs j xs) ≡ h
+pub run-long : (lent : ℕ → ℕ → ℕ → Complex) (h : ℕ) (rs : List ℕ) (j : ℕ) (xs : List Complex) → length xs ≡ h → length (run plain (floats lent) h rs j xs) ≡ h
 unfolding run stage
 run-long lent h rs zero xs e = e
-run-long lent h rs (suc j) xs e = length-stage (plain (floats lent)) (floats lent) j h _ _ _
+run-long lent h rs (suc j) xs e = length-stage plain (floats lent) j h _ _ _
 
 module _ (p : Record) (W : ℕ) (lent : Slices) (v : Verdict) (tw : Slices) (fills : Fills Forward p W lent v tw) (filled : v ≡ Accepted)
     (xs : List Float) (before : Slices) (r : Verdict) (after : Slices) (f : Forwards p W (tw .0) (tw .1) xs before r after) (e : r ≡ Accepted) where
@@ -79,7 +79,7 @@ module _ (p : Record) (W : ℕ) (lent : Slices) (v : Verdict) (tw : Slices) (fil
 
   -- the result of the stages
   abbrev ran : List Complex
-  ran = run (floats (turning rs)) h rs (p .count) (pairsOf xs)
+  ran = run plain (floats (turning rs)) h rs (p .count) (pairsOf xs)
 
   made : after .0 ≡ postprocess-fft h (tw .1) (flat ran)
   unfolding forwardOf forwardRun
@@ -94,10 +94,10 @@ module _ (p : Record) (W : ℕ) (lent : Slices) (v : Verdict) (tw : Slices) (fil
   unfolding ended
   bin-is k l = ap (λ (ys : List Float). cell ys k) made ∙ cell-tabulated (h + 1) (endCell fftSteps h (cell (flat ran)) (endLent (tw .1))) k (omega arith)
 
-  ran-cell : (k : ℕ) → k < h → cell (flat ran) k ≡ getD (run (floats (turning rs)) h rs (length rs) (pairsOf xs)) k blank
+  ran-cell : (k : ℕ) → k < h → cell (flat ran) k ≡ getD (run plain (floats (turning rs)) h rs (length rs) (pairsOf xs)) k blank
   ran-cell k l =
       cell-flat ran k (rw (run-long (turning rs) h rs (p .count) (pairsOf xs) (length-paired h xs samples-long)) l)
-      ∙ ap (λ (n : ℕ). getD (run (floats (turning rs)) h rs n (pairsOf xs)) k blank) (sym (use-length p (told .planned)))
+      ∙ ap (λ (n : ℕ). getD (run plain (floats (turning rs)) h rs n (pairsOf xs)) k blank) (sym (use-length p (told .planned)))
 
   -- ---- the end twiddles
 

@@ -18,7 +18,7 @@ use Rattle.counts.specs.declared.Buffer.the-variants.{Data, Scratchpad}
 use Rattle.plan.specs.declared.Record.{Record}
 use Rattle.schedule.specs.Buffers.{Two, heldIn}
 use Rattle.schedule.specs.Plans.{inUse}
-use Rattle.schedule.specs.Stage.{tabulate, run}
+use Rattle.schedule.specs.Stage.{tabulate, run, plain}
 use Rattle.schedule.proofs.Cells.{getD-tabulate, length-tabulate}
 use Rattle.schedule.proofs.Plans.{use-length, use-product}
 use Rattle.turn.specs.Calls.{part}
@@ -117,7 +117,7 @@ module _ (p : Record) (W : ℕ) (lent : Slices) (v : Verdict) (tw : Slices) (fil
 
   -- and make of it
   abbrev ran : List Complex
-  ran = run (floats (turning rs)) h rs (p .count) inputs
+  ran = run plain (floats (turning rs)) h rs (p .count) inputs
 
   made : after .0 ≡ conjugated h (flat ran) ++ zeros (length (before .0) - 2 * h)
   unfolding inverseOf inverseRun conjugated
@@ -125,7 +125,7 @@ module _ (p : Record) (W : ℕ) (lent : Slices) (v : Verdict) (tw : Slices) (fil
       ap (λ (s : Slices). s .0) (settled _ _ _ _ _ f (sym (f .answer) ∙ e))
       ∙ ap (λ (ys : List Float). ys ++ zeros (length (before .0) - 2 * h)) (restored-is h (resultIn (p .count)) _
       ∙ ap (conjugated h) (filled-run Inverse p W lent v tw fills filled (conjugated h (dataOf h q)) (padOf h q) (length-conjugated h (dataOf h q)) (pad-length h q q-long)
-      ∙ ap (λ (zs : List Complex). flat (run houseFloats h rs (p .count) zs)) (paired-flat inputs) ∙ ap flat (sym (run-housed h rs (p .count) inputs))))
+      ∙ ap (λ (zs : List Complex). flat (run plain houseFloats h rs (p .count) zs)) (paired-flat inputs) ∙ ap flat (sym (run-housed h rs (p .count) inputs))))
 
   inputs-long : length inputs ≡ h
   inputs-long = length-tabulate h 0 _
@@ -205,8 +205,8 @@ module _ (p : Record) (W : ℕ) (lent : Slices) (v : Verdict) (tw : Slices) (fil
     abbrev E : ℕ
     E = error rs (length rs)
 
-    ran-is : (u : ℕ) → getD ran u blank ≡ getD (run (floats (turning rs)) h rs (length rs) inputs) u blank
-    ran-is u = ap (λ (n : ℕ). getD (run (floats (turning rs)) h rs n inputs) u blank) (sym (use-length p (told .planned)))
+    ran-is : (u : ℕ) → getD ran u blank ≡ getD (run plain (floats (turning rs)) h rs (length rs) inputs) u blank
+    ran-is u = ap (λ (n : ℕ). getD (run plain (floats (turning rs)) h rs n inputs) u blank) (sym (use-length p (told .planned)))
 
     enough : (u : ℕ) → u < h → 2 ^ 20 ≤ 2898 * a
     enough u l = le-trans (lit≤ tt) (mul-le-mul-left 2898 least)

@@ -64,14 +64,14 @@ module _ (lent : ℕ → ℕ → ℕ → Complex) (j M s r : ℕ) (c : ℕ → C
   total-added zero = refl
   total-added (suc q) = ap (λ (z : Complex). plusC z (terms (suc q))) (total-added q)
 
-  output-added : output (plain (floats lent)) (floats lent) j M s r c i p ≡ added terms (r - 1)
+  output-added : output plain (floats lent) j M s r c i p ≡ added terms (r - 1)
   unfolding output plain
   output-added = total-added (r - 1)
 
 module _ (N : ℕ) (W : ℕ → Gauss) (turns : Turns (2 ^ 60) N W) (p h : ℕ) (circle : p * h ≡ N) (circle-small : N ≤ 2 ^ 13) (lent : ℕ → ℕ → ℕ → Complex) where
   -- output p of iteration i of stage j
   abbrev made : (j M s r : ℕ) → (ℕ → Complex) → (i p : ℕ) → Complex
-  made j M s r c i p = output (plain (floats lent)) (floats lent) j M s r c i p
+  made j M s r c i p = output plain (floats lent) j M s r c i p
 
   -- The cells c hold the block sums of x at stride S, within E for each weight.
   abbrev pub Accurate : (E S : ℕ) → (ℕ → Gauss) → (ℕ → ℕ) → (ℕ → Complex) → Type 0
@@ -242,12 +242,12 @@ module _ (N : ℕ) (W : ℕ → Gauss) (turns : Turns (2 ^ 60) N W) (p h : ℕ) 
   module _ (x : ℕ → Gauss) (a : ℕ → ℕ) (sized : (u : ℕ) → u < h → Disc (2 ^ 20 * a u) (x u)) (least : (u : ℕ) → u < h → 2 ^ 20 ≤ a u) (total : sumN h a ≤ 2 ^ 220) where
     pub stage-accurate : (n s r : ℕ) → h ≡ n * (s * r) → 0 < s → 0 < r → r ≤ 8 → (j : ℕ) → ((t : ℕ) → t < r → Faithful (W (p * (t * (n * s)))) (kernel t r)) → Twiddles j s n
         → (E : ℕ) → E ≤ 2 ^ 66 → (xs : List Complex) → Accurate E s x a (cells xs)
-        → Accurate (E + (τ + (r - 1) * κ) + (2 ^ 39 + 2 ^ 6)) (s * r) x a (cells (stageBy (plain (floats lent)) (floats lent) j h s r xs))
+        → Accurate (E + (τ + (r - 1) * κ) + (2 ^ 39 + 2 ^ 6)) (s * r) x a (cells (stageBy plain (floats lent) j h s r xs))
     unfolding stageBy floats
     stage-accurate n s r parts ps pr eight j faithful twiddles E fine xs before b k lb lk =
         let lb' : b < n = subst (λ (m : ℕ). b < m) (by-both h n s r parts ps pr) lb in
         let m : b * (s * r) + k < h = lt-of-lt-of-le (digits-lt lb lk) (div-mul-le-self h (s * r)) in
-        let e : getD (stageBy (plain (floats lent)) (floats lent) j h s r xs) (b * (s * r) + k) blank ≡ made j (h / r) s r (cells xs) (b * s + k % s) (k / s) =
+        let e : getD (stageBy plain (floats lent) j h s r xs) (b * (s * r) + k) blank ≡ made j (h / r) s r (cells xs) (b * s + k % s) (k / s) =
         getD-tabulate h 0 _ (b * (s * r) + k) blank m
         ∙ ap (λ (l : ℕ). made j (h / r) s r (cells xs) (iteration s r l) (place s r l)) (zero-add (b * (s * r) + k))
         ∙ ap₂ (λ (u v : ℕ). made j (h / r) s r (cells xs) u v) (iteration-block s r b k lk) (place-block s r b k lk) in
@@ -272,7 +272,7 @@ module _ (N : ℕ) (W : ℕ → Gauss) (turns : Turns (2 ^ 60) N W) (p h : ℕ) 
     (xs : List Complex) (held : (u : ℕ) → u < h → Held binary32 (getD xs u blank .re) × Held binary32 (getD xs u blank .im))
     (a : ℕ → ℕ) (sized : (u : ℕ) → u < h → Disc (2 ^ 20 * a u) (valC (getD xs u blank))) (least : (u : ℕ) → u < h → 2 ^ 20 ≤ a u) (total : sumN h a ≤ 2 ^ 220) where
   abbrev floatRun : ℕ → List Complex
-  floatRun j = run (floats lent) h rs j xs
+  floatRun j = run plain (floats lent) h rs j xs
 
   abbrev samples : ℕ → Gauss
   samples u = valC (getD xs u blank)

@@ -49,7 +49,7 @@ module _ {list : List ℕ} where
   promised P s a p = subst P (sym (p .answer)) s
 
   -- what an accepted run makes, whatever the scratch held
-  sums : {h m w : ℕ} {xs ys : List ℕ} → planOf list .half ≡ h → run (residues m w h) h (inUse (planOf list)) (planOf list .count) xs ≡ ys
+  sums : {h m w : ℕ} {xs ys : List ℕ} → planOf list .half ≡ h → run plain (residues m w h) h (inUse (planOf list)) (planOf list .count) xs ≡ ys
       → runVerdict (planOf list) m w xs h ≡ Accepted
       → ((scratch : List ℕ) → heldIn (resultIn (planOf list .count)) (runOf (planOf list) m w (xs, scratch)) ≡ ys)
       → (a : Planned) → Plans list a → Sums h m w xs ys (a .plan)

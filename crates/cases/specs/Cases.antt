@@ -19,7 +19,7 @@ use Rattle.merging.specs.declared.inner.merging.Rule.{Rule}
 use Rattle.merging.specs.declared.inner.merging.Rule.the-variants.{A, B, C}
 use Rattle.schedule.specs.Buffers.{Two, heldIn}
 use Rattle.schedule.specs.Plans.{inUse}
-use Rattle.schedule.specs.Stage.{run}
+use Rattle.schedule.specs.Stage.{run, plain}
 use Rattle.twiddle.specs.Calls.{isWidth}
 use Rattle.floats.specs.Complexes.{cx, flat}
 use Rattle.floats.specs.declared.complex.Complex.{Complex}
@@ -91,7 +91,7 @@ pub record Makes (rs : List ℕ) (ms : List Rule) (a : Planned) : Type 0 where
 -- a plan's half is h, the schedule's stages in remainders make ys of xs, and every run on xs is accepted and leaves ys in the buffer with the result
 pub record Sums (h m w : ℕ) (xs ys : List ℕ) (p : Record) : Type 0 where
   pub half : p .half ≡ h
-  pub stages : run (residues m w h) h (inUse p) (p .count) xs ≡ ys
+  pub stages : run plain (residues m w h) h (inUse p) (p .count) xs ≡ ys
   pub runs : (scratch : List ℕ) → length scratch ≡ h → (r : Verdict) (after : Two ℕ) → Runs p m w (xs, scratch) r after
       → (r ≡ Accepted) × (heldIn (resultIn (p .count)) after ≡ ys)
 

@@ -13,7 +13,7 @@ use Rattle.refusal.proofs.Rows.{accepted, settled}
 use Rattle.counts.specs.Counts.{radix}
 use Rattle.plan.specs.declared.Record.{Record}
 use Rattle.schedule.specs.Plans.{inUse}
-use Rattle.schedule.specs.Stage.{stage}
+use Rattle.schedule.specs.Stage.{stage, plain}
 use Rattle.twiddle.specs.Places.{place}
 use Rattle.twiddle.proofs.Verdicts.{width-bounds}
 use Rattle.floats.specs.Complexes.{cell, paired}
@@ -59,7 +59,7 @@ module _ (p : Record) (j W : ℕ) (xs out tw : List Float) (r : Verdict) (ys : L
       let ones : 0 < j → OnesIn p j (lent j) = λ later i q li first last.
       let below = place-lt M (radix (inUse p) j) W i q (width-bounds W (t .width) .0) li first last in
       cell-both 0 tw (stage-scanned .1) (place M (radix (inUse p) j) W i q) (omega (arith, below, own-count p (t .planned) j later (t .known), t .lent)) in
-      let made = stage (floats lent) (p .half) (inUse p) j (paired xs) in
+      let made = stage plain (floats lent) (p .half) (inUse p) j (paired xs) in
       let sized = stage-all p (t .planned) lent j k (t .known) few ones (paired xs) (words-cells k (p .half) xs (t .source) w) in
       subst (Words (k + 5)) (sym (stage-left p j W xs out tw r ys s e)) (cells-words (k + 5) made (λ i li. sized i (rw (stage-cells p lent j (paired xs)) at li)))
 

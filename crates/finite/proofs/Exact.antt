@@ -86,7 +86,7 @@ module _ (p : Record) (planned : isPlanned p ≡ true) where
 abbrev crossed : (a b : Complex) → List Complex
 crossed a b = plus a b ∷ plus a (turnedBy Half b) ∷ []
 
-stage-crossed : (lent : ℕ → ℕ → ℕ → Complex) (zs : List Complex) → stage (floats lent) 2 (2 ∷ []) 0 zs ≡ crossed (getD zs 0 blank) (getD zs 1 blank)
+stage-crossed : (lent : ℕ → ℕ → ℕ → Complex) (zs : List Complex) → stage plain (floats lent) 2 (2 ∷ []) 0 zs ≡ crossed (getD zs 0 blank) (getD zs 1 blank)
 unfolding stage stageBy tabulate output plain total read twiddledIn kernelTurn iteration place floats radix stride product turnOf turnAt indexOf
 stage-crossed lent zs = refl
 
@@ -119,7 +119,7 @@ module _ (p : Record) (planned : isPlanned p ≡ true) (W : ℕ) (tw end xs s : 
   unfolding stageOf
   stage-four e ys =
       let lent : ℕ → ℕ → ℕ → Complex = λ k. lentAt (p .half / radix (inUse p) 0) (radix (inUse p) 0) W (ownOf p tw 0) in
-      ap₂ (λ (h : ℕ) (rs : List ℕ). flat (stage (floats lent) h rs 0 (paired ys))) (half-as p planned 2 e) (use-four p planned e)
+      ap₂ (λ (h : ℕ) (rs : List ℕ). flat (stage plain (floats lent) h rs 0 (paired ys))) (half-as p planned 2 e) (use-four p planned e)
       ∙ ap flat (stage-crossed lent (paired ys))
 
   -- what forward leaves, of a half and a count

@@ -100,7 +100,7 @@ module _ (lent : ℕ → ℕ → ℕ → Complex) where
         go zero o = both-wider 1 2 k _ (lit≤ tt) (cells (suc q) l)
         go (suc j) o = times-both 6 1 k (six 2 k (lit≤ tt) few) _ _ (cells (suc q) l) (o (suc q) (omega arith) (omega arith) l)
 
-    pub output-both : (p : ℕ) → 0 < r → r ≤ 8 → Both 1 (k + 5) (output (plain (floats lent)) (floats lent) j M s r c i p)
+    pub output-both : (p : ℕ) → 0 < r → r ≤ 8 → Both 1 (k + 5) (output plain (floats lent) j M s r c i p)
     unfolding output plain
     output-both p some eight =
         let room : 2 + (r - 1) * 4 ≤ 30 = omega arith in
@@ -120,7 +120,7 @@ Ones p lent = (j : ℕ) → 0 < j → j < p .count → OnesIn p j (lent j)
 
 module _ (p : Record) (planned : isPlanned p ≡ true) (lent : ℕ → ℕ → ℕ → Complex) where
   pub stage-all : (j k : ℕ) → j < p .count → k ≤ 121 → (0 < j → OnesIn p j (lent j)) → (xs : List Complex) → All 1 k (p .half) xs
-      → All 1 (k + 5) (p .half) (stage (floats lent) (p .half) (inUse p) j xs)
+      → All 1 (k + 5) (p .half) (stage plain (floats lent) (p .half) (inUse p) j xs)
   unfolding stage stageBy floats
   stage-all j k l few ones xs before n ln =
       let r = radix (inUse p) j in
@@ -128,7 +128,7 @@ module _ (p : Record) (planned : isPlanned p ≡ true) (lent : ℕ → ℕ → �
       let blocks = product (drop (suc j) (inUse p)) in
       let at : iteration s r n < p .half / r = iteration-lt s r n (use-stride-some p planned j l) (use-radix-some p planned j l) (p .half) blocks (use-parts p planned j l) ln in
       subst (λ (z : Complex). Both 1 (k + 5) z) (sym (getD-tabulate (p .half) 0 _ n blank ln))
-      (subst (λ (m : ℕ). Both 1 (k + 5) (output (plain (floats lent)) (floats lent) j (p .half / r) s r (λ u. getD xs u blank) (iteration s r m) (place s r m))) (sym (zero-add n))
+      (subst (λ (m : ℕ). Both 1 (k + 5) (output plain (floats lent) j (p .half / r) s r (λ u. getD xs u blank) (iteration s r m) (place s r m))) (sym (zero-add n))
       (output-both lent j (p .half / r) s r k few (λ u. getD xs u blank) (iteration s r n)
       (λ q lq. before (iteration s r n + q * (p .half / r)) (read-lt (p .half) r (iteration s r n) q at lq)) (λ q lj first last. ones lj (iteration s r n) q at first last) (place s r n)
       (use-radix-some p planned j l) (use-radix-few p planned j l)))

@@ -56,14 +56,14 @@ cells-words k (z ∷ zs) w (suc (suc i)) li = cells-words k zs (λ n ln. w (suc 
 -- ---- a stage and a run, word by word
 
 -- a stage makes as many cells as the plan has
-pub stage-cells : (p : Record) (lent : ℕ → ℕ → ℕ → Complex) (j : ℕ) (xs : List Complex) → length (stage (floats lent) (p .half) (inUse p) j xs) ≡ p .half
+pub stage-cells : (p : Record) (lent : ℕ → ℕ → ℕ → Complex) (j : ℕ) (xs : List Complex) → length (stage plain (floats lent) (p .half) (inUse p) j xs) ≡ p .half
 unfolding stage
-stage-cells p lent j xs = length-stage (plain (floats lent)) (floats lent) j (p .half) (stride (inUse p) j) (radix (inUse p) j) xs
+stage-cells p lent j xs = length-stage plain (floats lent) j (p .half) (stride (inUse p) j) (radix (inUse p) j) xs
 
 module _ (p : Record) (planned : isPlanned p ≡ true) (W : ℕ) (some : 0 < W) (tw : List Float) (ones : Ones p (lentTo p W tw)) where
   stage-words : (j k : ℕ) → j < p .count → k ≤ 121 → (xs : List Float) → length xs ≡ 2 * p .half → Words k xs → Words (k + 5) (stageIn p W tw j xs)
   stage-words j k l few xs e w =
-      let made = stage (floats (lentTo p W tw)) (p .half) (inUse p) j (paired xs) in
+      let made = stage plain (floats (lentTo p W tw)) (p .half) (inUse p) j (paired xs) in
       let sized = stage-all p planned (lentTo p W tw) j k l few (λ later. ones j later l) (paired xs) (words-cells k (p .half) xs e w) in
       subst (Words (k + 5)) (sym (stage-lent p planned W some tw j l xs)) (cells-words (k + 5) made (λ n ln. sized n (rw (stage-cells p (lentTo p W tw) j (paired xs)) at ln)))
 

@@ -1,19 +1,18 @@
 -- What an iteration reads, and the outputs of its kernel. Assumes nothing.
-use mathlib.Core.Path.{_≡_, ap, ap₂, _∙_}
+use mathlib.Core.Path.{_≡_, refl, ap, ap₂, _∙_}
 use mathlib.Core.Bool.{Bool, true, false}
 use mathlib.Core.List.{List, [], _∷_}
 use Prim.Native.Nat.{ℕ, zero, suc, _+_, _-_, _*_, _/_, _%_, _≤_, _<_}
 use native.Mathlib.Nat.{zero-add}
 use native.Mathlib.Omega.{arith}
-use native.Mathlib.Decide.{ℕ-discrete}
 use lib.Dec.{eqb}
 use borrow.Author.Tests.{ne-eqb}
-use lib.ListN.{getD, set, length}
-use lib.Seq.{getD-set-same, getD-set-other}
+use lib.ListN.{getD}
 use lib.Arith.{digits-lt}
 use lib.Ieee.{Float}
 use Rattle.schedule.specs.Stage.{tabulate, kernelTurn, twiddledIn, read, total, plain, output}
 use Rattle.schedule.proofs.Cells.{getD-tabulate, read-lt}
+use Rattle.schedule.proofs.Sums as Sums
 use Rattle.turn.specs.Calls.{part}
 use Rattle.turn.specs.Turns.{turnOf}
 use Rattle.turn.specs.declared.Turn.{Turn}
@@ -26,15 +25,6 @@ use Rattle.kernel.specs.Parts.{lentBy, untwiddled, kernelOf, readOf, out
 pub cell-room : (i q M r n : ℕ) → i < M → q < r → 2 * (M * r) ≤ n → 2 * (i + q * M) + 1 < n
 cell-room i q M r n li lq l = omega (arith, digits-lt lq li)
 
--- one more element of a list as it should be
-pub set-more : {A : Type 0} (f : ℕ → A) (xs : List A) (n : ℕ) (v d : A) → n < length xs → v ≡ f n → ((k : ℕ) → k < n → getD xs k d ≡ f k)
-    → (k : ℕ) → k < n + 1 → getD (set xs n v) k d ≡ f k
-set-more f xs n v d l e before k lk = pick (ℕ-discrete k n)
-  where
-    pick : Dec (k ≡ n) → getD (set xs n v) k d ≡ f k
-    pick (yes s) = rw s (getD-set-same xs n v d l ∙ e)
-    pick (no s) = getD-set-other xs n k v d s ∙ before k (omega (arith, s))
-
 -- eight values in a row
 pub eight-listed : (f : ℕ → Complex) (a b c d e g h k : Complex) → a ≡ f 0 → b ≡ f 1 → c ≡ f 2 → d ≡ f 3 → e ≡ f 4 → g ≡ f 5 → h ≡ f 6 → k ≡ f 7
     → a ∷ b ∷ c ∷ d ∷ e ∷ g ∷ h ∷ k ∷ [] ≡ tabulate 8 0 f
@@ -46,19 +36,9 @@ eight-listed f a b c d e g h k e0 e1 e2 e3 e4 e5 e6 e7 = λ i. e0 i ∷ e1 i ∷
 -- one more term, as a loop over q has it
 pub total-next : (r : ℕ) (x : ℕ → Complex) (p q : ℕ) (acc z sum : Complex) (t : Turn) → 0 < q → acc ≡ total untwiddled r x p (q - 1)
     → t ≡ turnOf (part (p * q % r) r) → z ≡ turnedBy t (x q) → sum ≡ plus acc z → sum ≡ total untwiddled r x p q
-unfolding total floats kernelTurn
-total-next r x p zero acc z sum t l ea et ez es = absurd (omega arith)
-total-next r x p (suc q) acc z sum t l ea et ez es =
-    let e : suc q - 1 ≡ q = omega arith in
-    es ∙ ap₂ plus (rw e at ea) (ez ∙ ap (λ (u : Turn). turnedBy u (x (suc q))) et)
-
--- a sum rests on the cells that it takes in, and on no twiddle
-pub total-same : (lent lent′ : ℕ → ℕ → ℕ → Complex) (r : ℕ) (x y : ℕ → Complex) (p n : ℕ) → ((q : ℕ) → q ≤ n → x q ≡ y q)
-    → total (floats lent) r x p n ≡ total (floats lent′) r y p n
-unfolding total floats
-total-same lent lent′ r x y p zero e = e 0 (omega arith)
-total-same lent lent′ r x y p (suc n) e =
-    ap₂ plus (total-same lent lent′ r x y p n (λ q l. e q (omega arith))) (ap (turnedBy (turnOf (kernelTurn p (suc n) r))) (e (suc n) (omega arith)))
+unfolding floats kernelTurn
+total-next r x p q acc z sum t l ea et ez es =
+    es ∙ ap (plus acc) (ez ∙ ap (λ (u : Turn). turnedBy u (x q)) et) ∙ Sums.total-next untwiddled r x p q acc l ea
 
 -- ---- reading
 
@@ -76,8 +56,7 @@ module _ (first : Bool) (M : ℕ) (src : List Float) (lent : ℕ → ℕ → Com
   -- the outputs of the cells read
   pub output-of : (r : ℕ) (c : List Complex) → 0 < r → ((q : ℕ) → q < r → getD c q blank ≡ readOf first M src lent i q)
       → (p : ℕ) → kernelOf r (λ q. getD c q blank) p ≡ outputOf first M r src lent i p
-  unfolding plain
-  output-of r c some reads p = total-same _ _ r _ _ p (r - 1) (λ q lq. reads q (omega arith))
+  output-of r c some reads p = Sums.plain-same untwiddled untwiddled (λ u w. refl) r _ _ p some (λ q l. (reads q l, λ z. refl))
 
   pub outputs-of : (r : ℕ) (c o : List Complex) → 0 < r → r ≤ 8 → ((q : ℕ) → q < r → getD c q blank ≡ readOf first M src lent i q)
       → o ≡ tabulate 8 0 (kernelOf r (λ q. getD c q blank)) → (p : ℕ) → p < r → getD o p blank ≡ outputOf first M r src lent i p
@@ -97,6 +76,6 @@ module _ (lent : ℕ → ℕ → Complex) (j h s r : ℕ) (src : List Float) (d 
           let later : suc j ≡ 0 → ⊥ = λ z. omega arith in
           rw (ne-eqb (suc j) 0 later) (ap (λ (x : Complex). times x (lent i (suc q))) (e (i + suc q * (h / r)) (read-lt h r i (suc q) li lq)))
 
-  pub output-same : (p : ℕ) → 0 < r → outputOf (eqb j 0) (h / r) r src lent i p ≡ output (plain (lentBy lent)) (lentBy lent) j (h / r) s r d i p
-  unfolding output plain
-  output-same p some = total-same _ _ r _ _ p (r - 1) (λ q l. read-same q (omega arith))
+  pub output-same : (p : ℕ) → 0 < r → outputOf (eqb j 0) (h / r) r src lent i p ≡ output plain (lentBy lent) j (h / r) s r d i p
+  unfolding output floats
+  output-same p some = Sums.plain-same untwiddled (lentBy lent) (λ u w. refl) r _ _ p some (λ q l. (read-same q l, λ z. refl))

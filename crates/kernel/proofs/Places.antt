@@ -1,19 +1,19 @@
 -- The outputs of a stage reach their cells: in the first stage one iteration after the other, later a row of a block at a time.
 -- Assumes nothing.
-use mathlib.Core.Path.{_≡_, sym, ap, _∙_}
+use mathlib.Core.Path.{_≡_, refl, sym, ap, _∙_}
 use mathlib.Core.List.{List}
 use Prim.Native.Nat.{ℕ, suc, _+_, _-_, _*_, _/_, _%_, _≤_, _<_}
-use native.Mathlib.Nat.{add-assoc, div-one, mod-one, div-add-mod', div-lt-iff-lt-mul, mul-le-mul-right, suc-mul, mul-comm}
+use native.Mathlib.Nat.{add-assoc, div-one, mod-one, div-lt-iff-lt-mul, mul-le-mul-right, suc-mul, mul-comm}
 use native.Mathlib.Omega.{arith}
 use native.Mathlib.Decide.{ℕ-discrete, decLe}
 use lib.Dec.{eqb}
 use lib.ListN.{length}
-use lib.Arith.{digits-div, digits-mod}
 use lib.Ieee.{Float}
-use Rattle.schedule.specs.Stage.{index, iteration, place, plain, stageBy}
-use Rattle.schedule.proofs.Cells.{iteration-index, place-index, index-lt, stage-by-outputs}
+use Rattle.schedule.specs.Stage.{index, plain, stageBy}
+use Rattle.schedule.proofs.Cells.{index-lt}
+use Rattle.schedule.proofs.Fill.{wrote-as, done-iteration, done-stage}
 use Rattle.floats.specs.declared.complex.Complex.{Complex}
-use Rattle.floats.specs.Complexes.{cell, paired, flat}
+use Rattle.floats.specs.Complexes.{paired, flat}
 use Rattle.floats.proofs.Flat.{get-paired, length-paired, flat-paired}
 use Rattle.kernel.specs.Floats.{floats}
 use Rattle.kernel.specs.Parts.{lentBy, outputOf, Wrote, Done, lane, Held, Saved, InBlock, Blocks}
@@ -23,61 +23,10 @@ pub index-one : (r i p : ℕ) → index 1 r i p ≡ i * r + p
 unfolding index
 index-one r i p = rw (div-one i, mod-one i) (omega arith)
 
--- two outputs share no cell
-pub same-place : (s r i p i′ p′ : ℕ) → 0 < s → p < r → p′ < r → index s r i p ≡ index s r i′ p′ → (i ≡ i′) × (p ≡ p′)
-same-place s r i p i′ p′ ps lp lp′ e = (
-  sym (iteration-index s r i p ps lp) ∙ ap (iteration s r) e ∙ iteration-index s r i′ p′ ps lp′,
-  sym (place-index s r i p ps lp) ∙ ap (place s r) e ∙ place-index s r i′ p′ ps lp′,
-)
-
 -- the first stage: iteration i fills r cells from i * r on
 pub first-step : (r i : ℕ) (v : ℕ → ℕ → Complex) (ys ys′ : List Float) → Wrote (v i) (i * r) r ys ys′ → Done 1 r v ys i → Done 1 r v ys′ (i + 1)
-first-step r i v ys ys′ w before i′ p′ li lp = pick (ℕ-discrete i′ i)
-  where
-    pick : Dec (i′ ≡ i) → cell ys′ (index 1 r i′ p′) ≡ v i′ p′
-    pick (yes e) = rw (e, index-one r i p′) (w .inside p′ lp)
-    pick (no f) =
-        w .outside (index 1 r i′ p′) (λ t lt e. f (same-place 1 r i′ p′ i t (omega arith) lp lt (e ∙ sym (index-one r i t)) .0))
-        ∙ before i′ p′ (omega (arith, f)) lp
-
--- within a block the cells of consecutive iterations are consecutive
-pub index-run : (s r i p t : ℕ) → 0 < s → i % s + t < s → index s r (i + t) p ≡ index s r i p + t
-unfolding index
-index-run s r i p t ps l =
-    let e : i + t ≡ i / s * s + (i % s + t) = omega (arith, div-add-mod' i s) in
-    rw (e, digits-div (i / s) l, digits-mod (i / s) l) (omega arith)
-
--- The outputs of the iterations below i, and of the n from i on those below p, are in their cells.
-abbrev pub Rowed : (s r : ℕ) → (ℕ → ℕ → Complex) → List Float → (i n p : ℕ) → Type 0
-Rowed s r v ys i n p = (i′ p′ : ℕ) → i′ < i + n → p′ < r → (i ≤ i′ → p′ < p) → cell ys (index s r i′ p′) ≡ v i′ p′
-
-module _ (s r i n : ℕ) (v : ℕ → ℕ → Complex) where
-  pub rowed-none : (ys : List Float) → Done s r v ys i → Rowed s r v ys i n 0
-  rowed-none ys before i′ p′ li lp l = before i′ p′ (pick (decLe i i′)) lp
-    where
-      pick : Dec (i ≤ i′) → i′ < i
-      pick (yes a) = absurd (omega (arith, l a))
-      pick (no a) = omega (arith, a)
-
-  pub rowed-step : 0 < s → i % s + n ≤ s → (p : ℕ) → p < r → (g : ℕ → Complex) (ys ys′ : List Float) → Wrote g (index s r i p) n ys ys′
-      → ((t : ℕ) → t < n → g t ≡ v (i + t) p) → Rowed s r v ys i n p → Rowed s r v ys′ i n (p + 1)
-  rowed-step ps one p lp g ys ys′ w gs before i′ p′ li lp′ l = pick (ℕ-discrete p′ p) (decLe i i′)
-    where
-      run : (t : ℕ) → t < n → index s r (i + t) p ≡ index s r i p + t
-      run t lt = index-run s r i p t ps (omega arith)
-
-      kept : ((t : ℕ) → t < n → i′ ≡ i + t → p′ ≡ p → ⊥) → (i ≤ i′ → p′ < p) → cell ys′ (index s r i′ p′) ≡ v i′ p′
-      kept o b =
-          w .outside (index s r i′ p′) (λ t lt e. let q = same-place s r i′ p′ (i + t) p ps lp′ lp (e ∙ sym (run t lt)) in o t lt (q .0) (q .1))
-          ∙ before i′ p′ li lp′ b
-
-      pick : Dec (p′ ≡ p) → Dec (i ≤ i′) → cell ys′ (index s r i′ p′) ≡ v i′ p′
-      pick (yes e) (yes a) =
-          let d : i′ ≡ i + (i′ - i) = omega arith in
-          let b : i′ - i < n = omega arith in
-          rw (e, d) (ap (cell ys′) (run (i′ - i) b) ∙ w .inside (i′ - i) b ∙ gs (i′ - i) b)
-      pick (yes e) (no a) = kept (λ t lt x y. a (omega arith)) (λ x. absurd (a x))
-      pick (no e) d = kept (λ t lt x y. e y) (λ x. omega (arith, l x, e))
+first-step r i v ys ys′ w =
+    done-iteration 1 r v (omega arith) i (λ i′ p l f. omega (arith, f)) (wrote-as (λ p l. (sym (index-one r i p), refl)) (w .cells))
 
 -- row p of a block has room
 pub row-room : (i n s r nd p : ℕ) → InBlock i n s r nd → p < r → 2 * (i / s * (s * r) + i % s + p * s + n) ≤ nd
@@ -103,8 +52,8 @@ pub held-step : (i j r : ℕ) (v : ℕ → ℕ → Complex) (re im re′ im′ :
 held-step i j r v re im re′ im′ lj w before j′ p lj′ lp = pick (ℕ-discrete j′ j)
   where
     pick : Dec (j′ ≡ j) → lane re′ im′ (16 * p + j′) ≡ v (i + j′) p
-    pick (yes e) = rw e (w .inside p lp)
-    pick (no f) = w .outside (16 * p + j′) (λ q lq e. f (omega arith)) ∙ before j′ p (omega (arith, f)) lp
+    pick (yes e) = rw e (w .cells .inside p lp)
+    pick (no f) = w .cells .outside (16 * p + j′) (λ q lq e. f (omega arith)) ∙ before j′ p (omega (arith, f)) lp
 
 -- lanes of two pairs, picked by the radix
 pub picked : (i n r : ℕ) (v : ℕ → ℕ → Complex) (ra ia rb ib p q : List Float) → (r < 7 → p ≡ ra) × (7 ≤ r → p ≡ rb) → (r < 7 → q ≡ ia) × (7 ≤ r → q ≡ ib)
@@ -127,12 +76,12 @@ picked-size r n a b p is la lb = pick (decLe 7 r)
 -- ---- all outputs in their cells make the stage
 
 pub staged : (h n s r j : ℕ) → h ≡ n * (s * r) → 0 < s → 0 < r → (lent : ℕ → ℕ → Complex) (src dst : List Float) → length src ≡ 2 * h → length dst ≡ 2 * h
-    → Done s r (outputOf (eqb j 0) (h / r) r src lent) dst (h / r) → dst ≡ flat (stageBy (plain (lentBy lent)) (lentBy lent) j h s r (paired src))
+    → Done s r (outputOf (eqb j 0) (h / r) r src lent) dst (h / r) → dst ≡ flat (stageBy plain (lentBy lent) j h s r (paired src))
 unfolding floats
 staged h n s r j parts ps pr lent src dst ls ld done =
     sym (flat-paired h dst ld)
     ∙ ap flat
-    (stage-by-outputs (plain (lentBy lent)) (lentBy lent) j h n s r parts ps pr (paired src) (paired dst) (length-paired h dst ld) (λ i p li lp.
+    (done-stage plain (lentBy lent) j h n s r parts ps pr (paired src) (paired dst) (length-paired h dst ld) (λ i p li lp.
     get-paired dst (index s r i p) (omega (arith, index-lt s r i p ps lp h n parts li))
     ∙ done i p li lp
     ∙ output-same lent j h s r src _ (λ k lk. sym (get-paired src k (omega arith))) i li p pr))

@@ -81,10 +81,10 @@ fetched-step i j r lent t t′ w before j′ q lj l lq = pick (ℕ-discrete j′
     lq′ = omega arith
 
     pick : Dec (j′ ≡ j) → cell t′ (j′ * (r - 1) + (q - 1)) ≡ lent (i + j′) q
-    pick (yes e) = rw e (w .inside (q - 1) lq′ ∙ ap (lent (i + j)) (omega arith))
+    pick (yes e) = rw e (w .cells .inside (q - 1) lq′ ∙ ap (lent (i + j)) (omega arith))
     pick (no f) =
         let m : j′ * (r - 1) + (q - 1) < j * (r - 1) = digits-lt (omega (arith, f)) lq′ in
-        w .outside (j′ * (r - 1) + (q - 1)) (λ u lu e. omega arith) ∙ before j′ q (omega (arith, f)) l lq
+        w .cells .outside (j′ * (r - 1) + (q - 1)) (λ u lu e. omega arith) ∙ before j′ q (omega (arith, f)) l lq
 
 -- ---- twiddles read where they stand, from the first of iteration i on
 

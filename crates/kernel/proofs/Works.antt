@@ -2,52 +2,37 @@
 use mathlib.Core.Path.{_≡_, refl, sym, ap, _∙_}
 use mathlib.Core.Bool.{true, false}
 use mathlib.Core.List.{List}
-use Prim.Native.Nat.{ℕ, suc, _-_, _*_, _/_, _≤_, _<_}
-use native.Mathlib.Nat.{le-of-lt, div-mul-le-self, div-le-self, mul-div-left}
+use Prim.Native.Nat.{ℕ, _-_, _*_, _/_, _≤_, _<_}
+use native.Mathlib.Nat.{le-of-lt, div-mul-le-self, div-le-self}
 use native.Mathlib.Omega.{arith}
 use lib.Dec.{eqb}
-use lib.ListN.{length, getD, drop}
+use lib.ListN.{length, getD}
 use lib.Ieee.{Float}
 use borrow.Author.Tests.{eq-eqb, ne-eqb}
 use Rattle.counts.specs.Counts.{radix, stride}
-use Rattle.radices.specs.Lists.{product}
 use Rattle.plan.specs.declared.Record.{Record}
 use Rattle.plan.proofs.Bounds.{plan-half, plan-radix, plan-radix-bounds}
 use Rattle.counts.proofs.Counts.{count-later, stride-none}
-use Rattle.schedule.specs.Plans.{inUse}
 use Rattle.schedule.specs.Stage.{stage}
-use Rattle.schedule.proofs.Cells.{by-radix}
-use Rattle.schedule.proofs.Plans.{use-parts, use-radix, use-stride, use-stride-some}
+use Rattle.schedule.proofs.Plans.{use-radix, use-stride, found-stride, found-parts, found-whole}
 use Rattle.floats.specs.declared.complex.Complex.{Complex}
 use Rattle.kernel.specs.Floats.{lentAt, stageOf}
 use Rattle.kernel.specs.Parts.{outputOf, Sized, Lending, Done, Blocks, Workable}
 use Rattle.kernel.proofs.Places.{staged}
 
 module _ (p : Record) (j W ns nt nd : ℕ) (k : Workable p j W ns nt nd) where
-  -- the radix, the stride and the blocks
+  -- the radix and the stride
   abbrev r : ℕ
   r = getD (p .radices) j 0
 
   abbrev s : ℕ
   s = stride (p .radices) j
 
-  abbrev blocks : ℕ
-  blocks = product (drop (suc j) (inUse p))
-
   bounds : (2 ≤ r) × (r ≤ 8)
   bounds = plan-radix-bounds p (k .planned) j (k .known)
 
-  same-stride : stride (inUse p) j ≡ s
-  same-stride = use-stride p (k .planned) j (le-of-lt (k .known))
-
-  same-radix : radix (inUse p) j ≡ r
-  same-radix = use-radix p (k .planned) j (k .known)
-
-  parts : p .half ≡ blocks * (s * r)
-  parts = rw (← same-stride, ← same-radix) (use-parts p (k .planned) j (k .known))
-
   stride-some : 0 < s
-  stride-some = rw (← same-stride) (use-stride-some p (k .planned) j (k .known))
+  stride-some = found-stride p (k .planned) j (k .known)
 
   pub work-sized : Sized (p .half / r) r ns
   work-sized =
@@ -73,12 +58,11 @@ module _ (p : Record) (j W ns nt nd : ℕ) (k : Workable p j W ns nt nd) where
 
   pub work-blocks : Blocks (p .half / r) s r nd
   work-blocks =
-      let n : p .half / r ≡ blocks * s = by-radix (p .half) blocks s r parts stride-some (omega (arith, bounds)) in
       record {
         stride = stride-some;
         some = omega (arith, bounds);
         few = bounds .1;
-        whole = rw (n, mul-div-left blocks stride-some);
+        whole = found-whole p (k .planned) j (k .known);
         room = work-room;
       }
 
@@ -86,8 +70,8 @@ module _ (p : Record) (j W ns nt nd : ℕ) (k : Workable p j W ns nt nd) where
     made : Done s r (outputOf (eqb j 0) (p .half / r) r src (lentAt (p .half / r) r W tw)) dst (p .half / r) → dst ≡ stageOf p j W tw src
     unfolding stageOf stage
     made done =
-        rw (same-stride, same-radix)
-        (staged (p .half) blocks s r j parts stride-some (omega (arith, bounds)) (lentAt (p .half / r) r W tw) src dst (ls ∙ k .source) (ld ∙ k .target) done)
+        rw (use-stride p (k .planned) j (le-of-lt (k .known)), use-radix p (k .planned) j (k .known))
+        (staged (p .half) _ s r j (found-parts p (k .planned) j (k .known)) stride-some (omega (arith, bounds)) (lentAt (p .half / r) r W tw) src dst (ls ∙ k .source) (ld ∙ k .target) done)
 
     pub first-made : j ≡ 0 → ((lent : ℕ → ℕ → Complex) → Done 1 r (outputOf true (p .half / r) r src lent) dst (p .half / r)) → dst ≡ stageOf p j W tw src
     first-made e done =

@@ -5,7 +5,7 @@ use lib.Ieee.{Float}
 use Rattle.counts.specs.Counts.{radix}
 use Rattle.plan.specs.declared.Record.{Record}
 use Rattle.schedule.specs.Plans.{inUse}
-use Rattle.schedule.specs.Stage.{Part, Arith, stage}
+use Rattle.schedule.specs.Stage.{Part, Arith, stage, plain}
 use Rattle.turn.specs.Turns.{turnOf, wordsOf}
 use Rattle.twiddle.specs.Places.{place}
 use Rattle.floats.specs.declared.complex.Complex.{Complex}
@@ -42,4 +42,4 @@ lentAt M r W tw i q = cell tw (place M r W i q)
 -- the words that stage j of a plan makes of the words xs, with its own twiddles tw
 unfoldable pub stageOf : Record → (j W : ℕ) → (tw xs : List Float) → List Float
 stageOf p j W tw xs =
-    flat (stage (floats (λ k. lentAt (p .half / radix (inUse p) j) (radix (inUse p) j) W tw)) (p .half) (inUse p) j (paired xs))
+    flat (stage plain (floats (λ k. lentAt (p .half / radix (inUse p) j) (radix (inUse p) j) W tw)) (p .half) (inUse p) j (paired xs))

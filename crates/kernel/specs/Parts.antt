@@ -9,7 +9,8 @@ use Rattle.counts.specs.Counts.{twiddleCount}
 use Rattle.radices.specs.Lists.{isRadix}
 use Rattle.plan.specs.Record.{isPlanned}
 use Rattle.plan.specs.declared.Record.{Record}
-use Rattle.schedule.specs.Stage.{Arith, index, plain}
+use Rattle.schedule.specs.Parts as Loop
+use Rattle.schedule.specs.Stage.{Arith, plain}
 use Rattle.twiddle.specs.Calls.{isWidth}
 use Rattle.floats.specs.declared.complex.Complex.{Complex}
 use Rattle.floats.specs.Complexes.{cx, blank, times, cell}
@@ -73,12 +74,11 @@ Fetched4 i n r lent t = (j q : ℕ) → j < n → 0 < q → q < r → cell t (j 
 -- ys′ is ys with the cells g 0, .., g (n - 1) from cell `at` on
 pub record Wrote (g : ℕ → Complex) (at n : ℕ) (ys ys′ : List Float) : Type 0 where
   pub size : length ys′ ≡ length ys
-  pub inside : (t : ℕ) → t < n → cell ys′ (at + t) ≡ g t
-  pub outside : (k : ℕ) → ((t : ℕ) → t < n → k ≡ at + t → ⊥) → cell ys′ k ≡ cell ys k
+  pub cells : Loop.Wrote (λ t. t < n) (λ t. at + t) g (cell ys) (cell ys′)
 
 -- the outputs v i p of the iterations below n are in their cells
 abbrev pub Done : (s r : ℕ) → (ℕ → ℕ → Complex) → List Float → ℕ → Type 0
-Done s r v ys n = (i p : ℕ) → i < n → p < r → cell ys (index s r i p) ≡ v i p
+Done s r v ys n = Loop.Done s r v (cell ys) (λ i p. i < n)
 
 -- ---- lanes: output p of lane j stands at 16 * p + j of two lists of 128
 
@@ -89,12 +89,15 @@ lane re im k = cx (getD re k nan) (getD im k nan)
 abbrev pub Held : (i n r : ℕ) → (ℕ → ℕ → Complex) → (re im : List Float) → Type 0
 Held i n r v re im = (j p : ℕ) → j < n → p < r → lane re im (16 * p + j) ≡ v (i + j) p
 
--- lane j has taken the outputs g 0, .., g (n - 1), and the others are as they were
-pub record Saved (g : ℕ → Complex) (j n : ℕ) (re im re′ im′ : List Float) : Type 0 where
+-- lane j has taken the outputs g p that T tells, and the others are as they were
+pub record Taken (T : ℕ → Type 0) (g : ℕ → Complex) (j : ℕ) (re im re′ im′ : List Float) : Type 0 where
   pub size-re : length re′ ≡ length re
   pub size-im : length im′ ≡ length im
-  pub inside : (p : ℕ) → p < n → lane re′ im′ (16 * p + j) ≡ g p
-  pub outside : (k : ℕ) → ((p : ℕ) → p < n → k ≡ 16 * p + j → ⊥) → lane re′ im′ k ≡ lane re im k
+  pub cells : Loop.Wrote T (λ p. 16 * p + j) g (lane re im) (lane re′ im′)
+
+-- .. those below n
+abbrev pub Saved : (g : ℕ → Complex) → (j n : ℕ) → (re im re′ im′ : List Float) → Type 0
+Saved g j n = Taken (λ p. p < n) g j
 
 -- ---- where the outputs go
 

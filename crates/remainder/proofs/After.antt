@@ -17,7 +17,7 @@ use Rattle.schedule.proofs.Strides.{stride-drop}
 use Rattle.remainder.specs.Calls.{Lent}
 use Rattle.remainder.specs.Residues.{residues, cells, blockSum, Blocks, Under}
 use Rattle.remainder.proofs.Blocks.{run-blocks}
-use Rattle.remainder.proofs.Columns.{all-under}
+use Rattle.remainder.proofs.Iteration.{all-under}
 
 -- block sums are remainders
 blocks-under : (m w h S n : ℕ) (x c : ℕ → ℕ) → 0 < m → 0 < S → h ≡ n * S → Blocks m w h S x c → (k : ℕ) → k < h → c k < m
@@ -29,7 +29,7 @@ blocks-under m w h S n x c pm ps e blocks k l =
 module _ (p : Record) (m w : ℕ) (xs : List ℕ) (h : Lent p m w xs) where
   -- the schedule after j stages
   abbrev pub after : ℕ → List ℕ
-  after j = run (residues m w (p .half)) (p .half) (inUse p) j xs
+  after j = run plain (residues m w (p .half)) (p .half) (inUse p) j xs
 
   pub circle : w ^ p .half % m ≡ 1 % m
   circle = h .circle ∙ sym (mod-eq-of-lt (h .modulus))
@@ -48,7 +48,7 @@ module _ (p : Record) (m w : ℕ) (xs : List ℕ) (h : Lent p m w xs) where
   after-length zero = h .long
   after-length (suc j) =
       let a = residues m w (p .half) in
-      length-stage (plain a) a j (p .half) (stride (inUse p) j) (radix (inUse p) j) (after j)
+      length-stage plain a j (p .half) (stride (inUse p) j) (radix (inUse p) j) (after j)
 
   pub after-under : (j : ℕ) → j ≤ p .count → Under m (length (after j)) (after j)
   after-under j l q lq =

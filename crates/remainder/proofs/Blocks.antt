@@ -9,7 +9,7 @@ use lib.Arith.{digits-lt, lt-one}
 use lib.ListN.{length, drop}
 use Rattle.radices.specs.Lists.{product}
 use Rattle.counts.specs.Counts.{stride, radix}
-use Rattle.schedule.specs.Stage.{stageBy, stage, run}
+use Rattle.schedule.specs.Stage.{stageBy, stage, run, plain}
 use Rattle.schedule.proofs.Cells.{getD-tabulate}
 use Rattle.schedule.proofs.Strides.{stride-suc, stride-length, stage-parts}
 use Rattle.remainder.specs.Residues.{residues, cells, sum, transform, blockSum, Blocks}
@@ -29,7 +29,7 @@ lone-blocks m w h x below b k lb lk =
 module _ (m w h : ℕ) (circle : w ^ h % m ≡ 1 % m) (rs : List ℕ) (whole : h ≡ product rs) where
   -- one stage of a list
   pub stage-list-blocks : (j : ℕ) → j < length rs → (x : ℕ → ℕ) (xs : List ℕ) → Blocks m w h (stride rs j) x (cells xs)
-      → Blocks m w h (stride rs (suc j)) x (cells (stage (residues m w h) h rs j xs))
+      → Blocks m w h (stride rs (suc j)) x (cells (stage plain (residues m w h) h rs j xs))
   unfolding stage stageBy residues
   stage-list-blocks j l x xs before =
       rw (stride-suc rs j l)
@@ -39,16 +39,16 @@ module _ (m w h : ℕ) (circle : w ^ h % m ≡ 1 % m) (rs : List ℕ) (whole : h
 
   module _ (xs : List ℕ) (below : (j : ℕ) → j < h → cells xs j < m) where
     -- after the first j stages every block holds the shorter sum
-    pub run-blocks : (j : ℕ) → j ≤ length rs → Blocks m w h (stride rs j) (cells xs) (cells (run (residues m w h) h rs j xs))
+    pub run-blocks : (j : ℕ) → j ≤ length rs → Blocks m w h (stride rs j) (cells xs) (cells (run plain (residues m w h) h rs j xs))
     unfolding run
     run-blocks zero l = rw (first-stride rs 0 refl) (lone-blocks m w h (cells xs) below)
-    run-blocks (suc j) l = stage-list-blocks j l (cells xs) (run (residues m w h) h rs j xs) (run-blocks j (le-of-lt l))
+    run-blocks (suc j) l = stage-list-blocks j l (cells xs) (run plain (residues m w h) h rs j xs) (run-blocks j (le-of-lt l))
 
     -- after the last, the transform
-    pub run-transform : (k : ℕ) → k < h → cells (run (residues m w h) h rs (length rs) xs) k ≡ transform m w h (cells xs) k
+    pub run-transform : (k : ℕ) → k < h → cells (run plain (residues m w h) h rs (length rs) xs) k ≡ transform m w h (cells xs) k
     unfolding transform blockSum
     run-transform k l =
         let end : stride rs (length rs) ≡ h = stride-length rs ∙ sym whole in
         let one : h / h ≡ 1 = div-self (omega arith) in
-        let all : Blocks m w h h (cells xs) (cells (run (residues m w h) h rs (length rs) xs)) = rw end at (run-blocks (length rs) (le-refl (length rs))) in
+        let all : Blocks m w h h (cells xs) (cells (run plain (residues m w h) h rs (length rs) xs)) = rw end at (run-blocks (length rs) (le-refl (length rs))) in
         simp (zero-mul, zero-add, one, one-mul) at (all 0 k (rw one (omega arith)) l)

@@ -1,89 +1,158 @@
--- What the code's columns leave is the schedule's stage. Assumes nothing.
-use Prim.Native.Nat.{ℕ, zero, suc, _+_, _*_, _/_, _%_, _^_, _<_, _≤_}
-use native.Mathlib.Nat.{mul-comm, le-of-lt}
+-- How the code walks a stage's columns, and that it makes the stage. Assumes nothing.
+use Prim.Native.Nat.{ℕ, suc, _+_, _*_, _/_, _%_, _^_, _<_, _≤_}
+use native.Mathlib.Nat.{add-mod-right, add-div-right, mod-le, mod-lt, mul-div-left, mul-le-mul, mul-le-mul-right, suc-mul, div-add-mod', div-le-self, le-of-lt}
+use native.Mathlib.Decide.{ℕ-discrete, decLe}
 use native.Mathlib.Omega.{arith}
 use mathlib.Core.Path.{_≡_, sym, ap, _∙_}
-use mathlib.Core.List.{List, [], _∷_}
+use mathlib.Core.List.{List}
+use lib.Arith.{digits-lt}
 use lib.ListN.{length, getD}
-use Rattle.counts.specs.Counts.{radix, stride}
+use Rattle.counts.specs.Counts.{stride}
 use Rattle.plan.specs.declared.Record.{Record}
-use Rattle.radices.specs.Lists.{isRadix}
-use Rattle.plan.proofs.Bounds.{plan-half, plan-radix}
-use Rattle.schedule.specs.Plans.{inUse}
-use Rattle.schedule.specs.Stage.{plain, output, putColumns, stage}
-use Rattle.schedule.proofs.Cells.{by-radix, by-both}
-use Rattle.schedule.proofs.Fill.{columns-stage}
-use Rattle.schedule.proofs.Plans.{use-stride, use-radix, use-parts, use-count, use-blocks, use-stride-some, use-radix-some, use-radix-few}
+use Rattle.plan.proofs.Bounds.{plan-half, plan-radix, plan-radix-bounds}
+use Rattle.counts.proofs.Counts.{stride-small, stride-none}
+use Rattle.schedule.specs.Stage.{index, plain}
+use Rattle.schedule.proofs.Cells.{index-lt}
+use Rattle.schedule.proofs.Fill.{wrote-as, done-iteration}
+use Rattle.schedule.proofs.Plans.{found-some, found-stride, found-blocks, found-whole, found-size, found-stage}
 use Rattle.remainder.specs.Calls.{Workable, stageOf}
+use Rattle.remainder.specs.Parts.{kernelOf, readOf, outputOf, Spread, Walked, Reading, Writing, Staged}
 use Rattle.remainder.specs.Residues.{residues, cells, Under}
-use Rattle.remainder.specs.Rows.{Shape, stepped, value}
-use Rattle.remainder.proofs.Blocks.{first-stride}
-use Rattle.remainder.proofs.Iteration.{pow-reduced, pow-times, value-output}
+use Rattle.remainder.proofs.Iteration.{power-power, all-under, column-output, lent-output}
 
--- a power of a reduced power
-pub power-power : (m w a v t : ℕ) → v ≡ w ^ a % m → v ^ t % m ≡ w ^ (a * t) % m
-power-power m w a v t e = ap (λ (n : ℕ). n ^ t % m) e ∙ pow-reduced (w ^ a) m t ∙ ap (λ (n : ℕ). n % m) (sym (pow-times w a t))
+-- ---- from iteration to iteration of column k
 
--- past the end there are 0s
-pub all-under : (m : ℕ) → 0 < m → (xs : List ℕ) → Under m (length xs) xs → (k : ℕ) → getD xs k 0 < m
-all-under m h [] u k = h
-all-under m h (x ∷ xs) u zero = u 0 (omega arith)
-all-under m h (x ∷ xs) u (suc k) = all-under m h xs (λ q l. u (suc q) (omega arith)) k
+-- of a column's iterations the one before is s before
+before : (s i i′ : ℕ) → 0 < s → i′ % s ≡ i % s → i′ < i + s → (i′ ≡ i → ⊥) → i′ < i
+before s i i′ ps e l f = pick (decLe (suc (i′ / s)) (i / s)) (decLe (suc (i / s)) (i′ / s))
+  where
+    home : i / s * s + i % s ≡ i
+    home = div-add-mod' i s
 
-module _ (m w h n : ℕ) (rs : List ℕ) (j : ℕ) (parts : h ≡ n * (stride rs j * radix rs j)) (columns : 0 < stride rs j) (some : 0 < radix rs j) (few : radix rs j ≤ 8)
-    (first : j ≡ 0 → stride rs j ≡ 1) (positive : 0 < m) (step root : ℕ) (src turns : List ℕ) (stepping : step ≡ w ^ n % m) (rooted : root ≡ w ^ (h / radix rs j) % m)
-    (turned : (t : ℕ) → t < 8 → getD turns t 0 ≡ root ^ t % m) (under : Under m (length src) src) where
-  -- every output is the schedule's
-  stepped-output : stepped m (radix rs j) (stride rs j) (h / radix rs j) step src turns ≡ output (plain (residues m w h)) (residues m w h) j (h / radix rs j) (stride rs j) (radix rs j) (cells src)
-  unfolding stepped
-  stepped-output = λ k i p. each i p k
+    home′ : i′ / s * s + i′ % s ≡ i′
+    home′ = div-add-mod' i′ s
+
+    pick : Dec (suc (i′ / s) ≤ i / s) → Dec (suc (i / s) ≤ i′ / s) → i′ < i
+    pick (yes a) d = omega (arith, home, home′, mul-le-mul-right s a, suc-mul (i′ / s) s, mod-lt i′ ps)
+    pick (no a) (yes b) = absurd (omega (arith, home, home′, mul-le-mul-right s b, suc-mul (i / s) s))
+    pick (no a) (no b) =
+        let same : i′ / s ≡ i / s = omega (arith, a, b) in
+        absurd (f (sym home′ ∙ rw (same, e) home))
+
+module _ (M s r : ℕ) (v : ℕ → ℕ → ℕ) (ps : 0 < s) where
+  -- nothing yet
+  pub walked-none : (ys : List ℕ) → Walked M s r v ys 0 0
+  walked-none ys i p (l, (a, b)) = absurd (omega (arith, b (omega arith)))
+
+  -- column k begins with iteration k
+  pub walked-from : (ys : List ℕ) (k : ℕ) → Walked M s r v ys k 0 → Walked M s r v ys k k
+  walked-from ys k done i p (l, (a, b)) = done i p (l, (a, λ e. absurd (omega (arith, b e, mod-le i s))))
+
+  -- one more of its iterations
+  pub walked-next : (ys ys′ : List ℕ) (k i to : ℕ) (g : ℕ → ℕ) → i % s ≡ k → to ≡ i / s * (s * r) + k → ((p : ℕ) → p < r → g p ≡ v i p)
+      → Spread (λ p. p < r) to s g ys ys′ → Walked M s r v ys k i → Walked M s r v ys′ k (i + s)
+  unfolding index
+  walked-next ys ys′ k i to g ei et eg w =
+      done-iteration s r v ps i (λ i′ p (l, (a, b)) f. (l, (a, λ e. before s i i′ ps (e ∙ sym ei) (b e) f)))
+      (wrote-as (λ p l. (place p, eg p l)) w)
     where
-      each : (i p : ℕ) → value m (radix rs j) (h / radix rs j) (step ^ (i % stride rs j) % m) src turns i p
-          ≡ output (plain (residues m w h)) (residues m w h) j (h / radix rs j) (stride rs j) (radix rs j) (cells src) i p
-      each i p =
-          value-output m w h rs j src turns (step ^ (i % stride rs j) % m) i some few first
-          (power-power m w n step (i % stride rs j) stepping
-          ∙ ap (λ (e : ℕ). w ^ e % m) (mul-comm n (i % stride rs j) ∙ ap (λ (b : ℕ). i % stride rs j * b) (sym (by-both h n (stride rs j) (radix rs j) parts columns some))))
-          (λ t l. turned t l ∙ power-power m w (h / radix rs j) root t rooted) (λ q l. all-under m positive src under (i + q * (h / radix rs j))) p
+      place : (p : ℕ) → to + p * s ≡ index s r i p
+      place p = rw (et, ei)
 
-  -- so the columns are the stage
-  pub columns-are-stage : (dst out : List ℕ) → length dst ≡ h
-      → out ≡ putColumns (stride rs j) (radix rs j) n (stepped m (radix rs j) (stride rs j) (h / radix rs j) step src turns) dst (stride rs j)
-      → out ≡ stage (residues m w h) h rs j src
-  unfolding stage residues
-  columns-are-stage dst out e d =
-      d
-      ∙ ap (λ (f : ℕ → ℕ → ℕ). putColumns (stride rs j) (radix rs j) n f dst (stride rs j)) stepped-output
-      ∙ columns-stage (plain (residues m w h)) (residues m w h) j h n (stride rs j) (radix rs j) parts columns some src dst e
+  -- column k is done
+  pub walked-column : (ys : List ℕ) (k i : ℕ) → M ≤ i → Walked M s r v ys k i → Walked M s r v ys (k + 1) 0
+  walked-column ys k i end done i′ p (l, (a, b)) = done i′ p (l, (below (ℕ-discrete (i′ % s) (k + 1)), λ e. omega arith))
+    where
+      below : Dec (i′ % s ≡ k + 1) → i′ % s ≤ k
+      below (yes e) = absurd (omega (arith, b e))
+      below (no f) = omega (arith, f)
 
--- The numbers that the code finds for stage j of an accepted plan
-module _ (p : Record) (j m w : ℕ) (src : List ℕ) (room : ℕ) (h : Workable p j m w src room) (s r : ℕ) (es : s ≡ stride (p .radices) j) (er : r ≡ getD (p .radices) j 0) where
-  same-stride : s ≡ stride (inUse p) j
-  same-stride = es ∙ sym (use-stride p (h .planned) j (le-of-lt (h .known)))
+-- where the next iteration stands
+pub next-column : (s i k : ℕ) → i % s ≡ k → (i + s) % s ≡ k
+next-column s i k e = add-mod-right i s ∙ e
 
-  same-radix : r ≡ radix (inUse p) j
-  same-radix = er ∙ sym (use-radix p (h .planned) j (h .known))
+pub next-block : (s r i to k : ℕ) → 0 < s → to ≡ i / s * (s * r) + k → to + s * r ≡ (i + s) / s * (s * r) + k
+next-block s r i to k ps e = rw (add-div-right i ps) (omega (arith, e))
 
-  in-blocks : p .half ≡ p .half / radix (inUse p) j / stride (inUse p) j * (stride (inUse p) j * radix (inUse p) j)
-  in-blocks = rw (use-count p (h .planned) j (h .known)) (use-parts p (h .planned) j (h .known))
+-- ---- what the iterations ask for
 
-  pub work-shape : Shape (p .half / r / s) s r (p .half / r) (length src)
-  work-shape =
-      rw (same-stride, same-radix, h .long)
-      (record {
-        whole = in-blocks;
-        step = by-radix (p .half) _ (stride (inUse p) j) (radix (inUse p) j) in-blocks (use-stride-some p (h .planned) j (h .known)) (use-radix-some p (h .planned) j (h .known));
-        blocks = rw (use-count p (h .planned) j (h .known)) (use-blocks p (h .planned) j (h .known));
-        columns = use-stride-some p (h .planned) j (h .known);
-        radix = ap isRadix (use-radix p (h .planned) j (h .known)) ∙ plan-radix p (h .planned) j (h .known);
-        few = plan-half p (h .planned) .1;
-      })
+module _ {m M s r : ℕ} {turns src : List ℕ} {room : ℕ} (h : Staged m M s r turns src room) where
+  pub room-few : M * r ≤ 4096 * 8
+  room-few = mul-le-mul (h .blocks .small) (h .blocks .few)
 
-  -- make of the columns the stage
-  pub work-done : (step root : ℕ) (turns dst out : List ℕ) → step ≡ w ^ (p .half / r / s) % m → root ≡ w ^ (p .half / r) % m
+  pub width-few : s * r ≤ 4096 * 8
+  width-few = mul-le-mul (h .blocks .narrow) (h .blocks .few)
+
+  module _ (i to : ℕ) (l : i < M) where
+    pub reading : (v : ℕ) → v < m → Reading m v M i r src
+    reading v lv =
+        record {
+          modulus = h .modulus;
+          some = h .blocks .some;
+          few = h .blocks .few;
+          power = lv;
+          cells = h .cells;
+          reads = λ q lq. rw (h .long) (omega (arith, digits-lt lq l));
+        }
+
+    pub writing : to ≡ i / s * (s * r) + i % s → Writing m to s r turns room
+    unfolding index
+    writing e =
+        let parts : M * r ≡ M / s * (s * r) = ap (λ (n : ℕ). n * r) (h .blocks .whole) ∙ omega arith in
+        record {
+          modulus = h .modulus;
+          some = h .blocks .some;
+          few = h .blocks .few;
+          stride = h .blocks .stride;
+          turning = h .turning;
+          writes = λ p lp. rw (h .wide, e) (index-lt s r i p (h .blocks .stride) lp (M * r) (M / s) parts (rw (mul-div-left M (h .blocks .some)) l));
+        }
+
+  -- outputs of column k
+  pub made : (step v k i : ℕ) → v ≡ step ^ k % m → i % s ≡ k → (p : ℕ) → p < r → kernelOf m turns r (readOf m v M src i) p ≡ outputOf m step M s r src turns i p
+  made step v k i e ei p lp =
+      column-output m step M s r src turns (h .blocks .some) (all-under m (omega (arith, h .modulus .two)) src (h .cells)) i p v (e ∙ ap (λ (n : ℕ). step ^ n % m) (sym ei))
+
+-- ---- stage j of an accepted plan
+
+module _ (p : Record) (j m w : ℕ) (src : List ℕ) (room : ℕ) (h : Workable p j m w src room) where
+  abbrev r : ℕ
+  r = getD (p .radices) j 0
+
+  abbrev s : ℕ
+  s = stride (p .radices) j
+
+  pub work-staged : (turns : List ℕ) → Under m 8 turns → Staged m (p .half / r) s r turns src room
+  work-staged turns under =
+      let size = found-size p (h .planned) j (h .known) in
+      record {
+        modulus = h .modulus;
+        blocks = record {
+          stride = found-stride p (h .planned) j (h .known);
+          radix = plan-radix p (h .planned) j (h .known);
+          some = found-some p (h .planned) j (h .known);
+          few = plan-radix-bounds p (h .planned) j (h .known) .1;
+          whole = found-whole p (h .planned) j (h .known);
+          small = omega (arith, div-le-self (p .half) r, plan-half p (h .planned));
+          narrow = stride-small p (h .planned) j (le-of-lt (h .known));
+        };
+        turning = under;
+        cells = h .cells;
+        long = h .long ∙ sym size;
+        wide = h .wide ∙ sym size;
+      }
+
+  -- all its columns make the stage
+  pub work-done : (step root : ℕ) (turns dst : List ℕ) → step ≡ w ^ (p .half / r / s) % m → root ≡ w ^ (p .half / r) % m
       → ((t : ℕ) → t < 8 → getD turns t 0 ≡ root ^ t % m) → length dst ≡ room
-      → out ≡ putColumns s r (p .half / r / s) (stepped m r s (p .half / r) step src turns) dst s → out ≡ stageOf p j m w src
-  work-done step root turns dst out ep er′ et el d =
-      columns-are-stage m w (p .half) _ (inUse p) j in-blocks (use-stride-some p (h .planned) j (h .known)) (use-radix-some p (h .planned) j (h .known))
-      (use-radix-few p (h .planned) j (h .known)) (first-stride (inUse p) j) (omega (arith, h .modulus .two)) step root src turns (rw (same-stride, same-radix) at ep)
-      (rw same-radix at er′) et (h .cells) dst out (el ∙ h .wide) (rw (same-stride, same-radix) at d)
+      → Walked (p .half / r) s r (outputOf m step (p .half / r) s r src turns) dst s 0 → dst ≡ stageOf p j m w src
+  unfolding residues
+  work-done step root turns dst stepping rooted turned wide done =
+      let k = found-some p (h .planned) j (h .known) in
+      let ps = found-stride p (h .planned) j (h .known) in
+      found-stage p (h .planned) j (h .known) plain (residues m w (p .half)) src dst (wide ∙ h .wide) (λ i q l lq.
+      done i q (l, (le-of-lt (mod-lt i ps), λ e. absurd (omega (arith, mod-lt i ps, e)))) lq
+      ∙ lent-output m step (p .half / r) s r src turns k (all-under m (omega (arith, h .modulus .two)) src (h .cells)) i q w (p .half) j
+      (plan-radix-bounds p (h .planned) j (h .known) .1) (λ z. ap (stride (p .radices)) z ∙ sym (stride-none (p .radices)))
+      (stepping ∙ ap (λ (t : ℕ). w ^ t % m) (found-blocks p (h .planned) j (h .known)))
+      (λ t lt. turned t lt ∙ power-power m w (p .half / r) root t rooted))

@@ -1,22 +1,17 @@
--- What an iteration of the code writes is what the schedule states. Assumes nothing.
+-- What an iteration of the code reads and makes is what the schedule states. Assumes nothing.
 use Prim.Native.Nat.{ℕ, zero, suc, _+_, _-_, _*_, _/_, _%_, _^_, _<_, _≤_}
-use native.Mathlib.Nat.{le-refl, zero-add, add-mod, mod-mod, mul-zero, mul-comm, add-zero, pow-zero, pow-suc, mod-eq-of-lt}
-use native.Mathlib.Numerals.{add-one}
+use native.Mathlib.Nat.{add-mod, mod-mod, mul-zero, mul-one, mul-comm, add-zero, zero-mul, pow-zero, pow-suc, one-mul, mod-eq-of-lt, mod-lt, mul-le-mul}
 use native.Mathlib.Omega.{arith}
-use mathlib.Core.Path.{_≡_, refl, sym, ap, ap₂, _∙_}
-use mathlib.Core.List.{List}
-use lib.ListN.{getD}
-use lib.Arith.{digits-mod}
+use mathlib.Core.Path.{_≡_, refl, sym, ap, _∙_}
+use mathlib.Core.List.{List, [], _∷_}
+use lib.ListN.{length, getD}
 use lib.Pow.{pow-add}
-use borrow.Author.Tests.{lt-ltb, le-ltb}
-use Rattle.counts.specs.Counts.{radix, stride}
-use Rattle.schedule.specs.Stage.{twiddleTurn, kernelTurn, read, total, plain, output, putOutputs, putColumn}
-use Rattle.schedule.proofs.Cells.{index-block}
-use Rattle.remainder.specs.Residues.{turn, residues, cells}
-use Rattle.remainder.specs.Rows.{below, rowOf, twiddledRow, sumTo, storeFrom, stored, value, stepped}
+use Rattle.schedule.specs.Stage.{twiddleTurn, kernelTurn, twiddledIn, read, total, output, plain}
+use Rattle.schedule.proofs.Sums.{total-next, plain-same}
+use Rattle.remainder.specs.Parts.{lentBy, kernelOf, readOf, outputOf}
+use Rattle.remainder.specs.Residues.{turn, residues, cells, Under}
 use Rattle.remainder.proofs.Sums.{mod-mul}
 use Rattle.remainder.proofs.Powers.{mul-mod}
-use Rattle.remainder.proofs.Rows.{eight-at, below-in, turn-lt}
 use Rattle.remainder.proofs.Step.{read-turned}
 
 -- ---- powers of remainders
@@ -44,102 +39,85 @@ power-product m w a q x v e =
     ∙ ap (λ (n : ℕ). x * n % m) (pow-reduced (w ^ a) m q ∙ ap (λ (n : ℕ). n % m) (sym (pow-times w a q)))
     ∙ mul-mod x (w ^ (a * q)) m
 
--- one term more, its factor reduced or the product
-term-reduced : (m s x y : ℕ) → (s + x * (y % m)) % m ≡ (s + x * y % m) % m
-term-reduced m s x y =
-    add-mod s (x * (y % m)) m ∙ ap (λ (n : ℕ). (s % m + n) % m) (mul-mod x y m ∙ sym (mod-mod (x * y) m)) ∙ sym (add-mod s (x * y % m) m)
+-- a power of a reduced power
+pub power-power : (m w a v t : ℕ) → v ≡ w ^ a % m → v ^ t % m ≡ w ^ (a * t) % m
+power-power m w a v t e = ap (λ (n : ℕ). n ^ t % m) e ∙ pow-reduced (w ^ a) m t ∙ ap (λ (n : ℕ). n % m) (sym (pow-times w a t))
 
--- ---- sums stop at the radix
+pub power-none : (v m : ℕ) → 1 < m → 1 ≡ v ^ 0 % m
+power-none v m h = sym (ap (λ (n : ℕ). n % m) (pow-zero v) ∙ mod-eq-of-lt h)
 
-sum-stop : (m r p : ℕ) (x turns : List ℕ) (n : ℕ) → r ≤ suc n → (k : ℕ) → sumTo m r p x turns (n + k) ≡ sumTo m r p x turns n
-unfolding sumTo
-sum-stop m r p x turns n l zero = ap (sumTo m r p x turns) (add-zero n)
-sum-stop m r p x turns n l (suc k) = ap (sumTo m r p x turns) {x = n + suc k} {y = suc (n + k)} (omega arith) ∙ last ∙ sum-stop m r p x turns n l k
+pub power-one : (v m : ℕ) → v < m → v ≡ v ^ 1 % m
+power-one v m h = sym (ap (λ (n : ℕ). n % m) (pow-suc v 0 ∙ ap (λ (n : ℕ). n * v) (pow-zero v) ∙ one-mul v) ∙ mod-eq-of-lt h)
+
+-- past the end there are 0s
+pub all-under : (m : ℕ) → 0 < m → (xs : List ℕ) → Under m (length xs) xs → (k : ℕ) → cells xs k < m
+all-under m h [] u k = h
+all-under m h (x ∷ xs) u zero = u 0 (omega arith)
+all-under m h (x ∷ xs) u (suc k) = all-under m h xs (λ q l. u (suc q) (omega arith)) k
+
+-- ---- what an iteration reads
+
+pub read-first : (m v M : ℕ) (src : List ℕ) (i : ℕ) → cells src i < m → cells src i ≡ readOf m v M src i 0
+read-first m v M src i l = sym (rw (zero-mul, add-zero, pow-zero, mul-one) (mod-eq-of-lt l))
+
+pub read-scaled : (m v M : ℕ) (src : List ℕ) (i q y : ℕ) → y ≡ v ^ q % m → cells src (i + q * M) * y % m ≡ readOf m v M src i q
+read-scaled m v M src i q y e = ap (λ (n : ℕ). cells src (i + q * M) * n % m) e ∙ mul-mod (cells src (i + q * M)) (v ^ q) m
+
+-- ---- what it makes of them
+
+pub turn-lt : (p q r : ℕ) → q < r → r ≤ 8 → p * q % r < 8
+turn-lt p q r h l = omega (arith, mod-lt (p * q) {m = r} (omega arith))
+
+pub small-product : (p q : ℕ) → p ≤ 7 → q ≤ 7 → p * q ≤ 49
+small-product p q h l = mul-le-mul {n₂ = 7} {m₂ = 7} h l
+
+-- one more term of an output
+pub term-next : (m r p q : ℕ) (x turns : List ℕ) (acc : ℕ) → 0 < q → acc ≡ total (lentBy m 1 turns) r (cells x) p (q - 1)
+    → (acc + cells x q * getD turns (p * q % r) 0) % m ≡ total (lentBy m 1 turns) r (cells x) p q
+unfolding lentBy kernelTurn
+term-next m r p q x turns acc l e = reduced ∙ next
   where
-    last : sumTo m r p x turns (suc (n + k)) ≡ sumTo m r p x turns (n + k)
-    last = simp (le-ltb (suc (n + k)) r (omega arith))
+    t : ℕ
+    t = cells x q * getD turns (p * q % r) 0
 
--- ---- where the outputs go
+    reduced : (acc + t) % m ≡ (acc + t % m) % m
+    reduced = add-mod acc t m ∙ ap (λ (n : ℕ). (acc % m + n) % m) (sym (mod-mod t m)) ∙ sym (add-mod acc (t % m) m)
 
-module _ (m r s b k : ℕ) (lk : k < s) (x turns : List ℕ) (f : ℕ → ℕ) (same : (p : ℕ) → sumTo m r p x turns 7 ≡ f p) (dst : List ℕ) where
-  -- the outputs of block b and column k
-  pub store-outputs : (n : ℕ) → n ≤ r → storeFrom m r s (b * (s * r) + k) x turns dst 0 n ≡ putOutputs s r (b * s + k) f dst n
-  unfolding storeFrom putOutputs
-  store-outputs zero l = refl
-  store-outputs (suc n) l = simp (zero-add, lt-ltb n r l) (rw (store-outputs n (omega arith), same n, index-block s r b k n lk))
+    next : (acc + t % m) % m ≡ total (lentBy m 1 turns) r (cells x) p q
+    next = total-next (lentBy m 1 turns) r (cells x) p q acc l e
 
--- no block of column k
-pub column-none : (s r k : ℕ) (f : ℕ → ℕ → ℕ) (ys : List ℕ) → ys ≡ putColumn s r k f ys 0
-unfolding putColumn
-column-none s r k f ys = refl
+-- a kernel rests on the cells that it takes in
+pub kernel-same : (m : ℕ) (turns : List ℕ) (r : ℕ) (x y : ℕ → ℕ) → 0 < r → ((q : ℕ) → q < r → x q ≡ y q) → (p : ℕ) → kernelOf m turns r x p ≡ kernelOf m turns r y p
+kernel-same m turns r x y some e p = plain-same (lentBy m 1 turns) (lentBy m 1 turns) (λ u v. refl) r x y p some (λ q l. (e q l, λ z. refl))
 
--- one block more of column k
-pub column-next : (m r s b k apart v : ℕ) (turns src ys dst out : List ℕ) (i to : ℕ) → k < s → i ≡ b * s + k → to ≡ b * (s * r) + k
-    → dst ≡ putColumn s r k (value m r apart v src turns) ys b → out ≡ stored m v i apart to s turns src dst r
-    → out ≡ putColumn s r k (value m r apart v src turns) ys (b + 1)
-unfolding putColumn value
-column-next m r s b k apart v turns src ys dst out i to lk ei eo ed e =
-    e
-    ∙ ap₂ (λ (x y : ℕ). stored m v x apart y s turns src dst r) ei eo
-    ∙ store-outputs m r s b k lk (twiddledRow m v r (rowOf src (b * s + k) apart r)) turns (value m r apart v src turns (b * s + k)) (λ p. refl) dst r (le-refl r)
-    ∙ ap (λ (zs : List ℕ). putOutputs s r (b * s + k) (value m r apart v src turns (b * s + k)) zs r) ed
-    ∙ ap (putColumn s r k (value m r apart v src turns) ys) (sym (add-one b))
-
--- the values of column k, whose twiddles are the powers of v
-pub value-stepped : (m r s apart step v k : ℕ) (src turns : List ℕ) → k < s → v ≡ step ^ k % m → (b : ℕ)
-    → value m r apart v src turns (b * s + k) ≡ stepped m r s apart step src turns (b * s + k)
-unfolding stepped
-value-stepped m r s apart step v k src turns lk e b =
-    ap (λ (n : ℕ). value m r apart n src turns (b * s + k)) (e ∙ ap (λ (n : ℕ). step ^ n % m) (sym (digits-mod b lk)))
-
-pub power-none : (step m : ℕ) → 1 < m → 1 ≡ step ^ 0 % m
-power-none step m h = sym (ap (λ (n : ℕ). n % m) (pow-zero step) ∙ mod-eq-of-lt h)
-
--- ---- what the outputs are
-
-module _ (m w h : ℕ) (rs : List ℕ) (j : ℕ) (src turns : List ℕ) (v i : ℕ) (some : 0 < radix rs j) (few : radix rs j ≤ 8)
-    (first : j ≡ 0 → stride rs j ≡ 1) (power : v ≡ w ^ (i % stride rs j * (h / (stride rs j * radix rs j))) % m)
-    (turned : (t : ℕ) → t < 8 → getD turns t 0 ≡ w ^ (h / radix rs j * t) % m)
-    (small : (q : ℕ) → q < radix rs j → getD src (i + q * (h / radix rs j)) 0 < m) where
-  abbrev x : List ℕ
-  x = twiddledRow m v (radix rs j) (rowOf src i (h / radix rs j) (radix rs j))
-
-  abbrev reads : ℕ → ℕ
-  reads = read (residues m w h) j (h / radix rs j) (stride rs j) (radix rs j) (cells src) i
-
-  row-cell : (q : ℕ) → q < radix rs j → getD x q 0 ≡ reads q
-  unfolding turn twiddleTurn
-  row-cell q l =
-      let s = stride rs j in
-      let r = radix rs j in
-      let cell = getD src (i + q * (h / radix rs j)) 0 in
-      eight-at (λ (n : ℕ). below r n (getD (rowOf src i (h / r) r) n 0 * v ^ n % m)) q (omega arith) ∙ below-in r q _ l
-      ∙ ap (λ (n : ℕ). n * v ^ q % m) (eight-at (λ (n : ℕ). below r n (getD src (i + n * (h / r)) 0)) q (omega arith) ∙ below-in r q cell l)
-      ∙ power-product m w (i % s * (h / (s * r))) q cell v power
-      ∙ ap (λ (n : ℕ). cell * w ^ n % m) {x = i % s * (h / (s * r)) * q} {y = i % s * q * (h / (s * r))} (omega arith)
-      ∙ sym (read-turned m w h j (h / radix rs j) (stride rs j) (radix rs j) (cells src) i q (sym (mod-eq-of-lt (small q l))) first)
-
-  row-total : (p n : ℕ) → n < radix rs j → sumTo m (radix rs j) p x turns n ≡ total (residues m w h) (radix rs j) reads p n
-  unfolding sumTo total residues turn kernelTurn
-  row-total p zero l = row-cell 0 l
-  row-total p (suc n) l = simp (lt-ltb (suc n) (radix rs j) l) (step (row-total p n (omega arith)))
+module _ (m step M s r : ℕ) (src turns : List ℕ) (some : 0 < r) (under : (k : ℕ) → cells src k < m) (i p : ℕ) where
+  -- with the powers of its column's power for twiddles it is an iteration of a later stage
+  pub column-output : (v : ℕ) → v ≡ step ^ (i % s) % m → kernelOf m turns r (readOf m v M src i) p ≡ outputOf m step M s r src turns i p
+  unfolding output lentBy read twiddledIn twiddleTurn
+  column-output v e = plain-same (lentBy m 1 turns) (lentBy m step turns) (λ u w. refl) r _ _ p some (λ q l. (each q, λ z. refl))
     where
-      step : sumTo m (radix rs j) p x turns n ≡ total (residues m w h) (radix rs j) reads p n
-          → (sumTo m (radix rs j) p x turns n + getD x (suc n) 0 * getD turns (p * suc n % radix rs j) 0) % m
-          ≡ residues m w h .plus (total (residues m w h) (radix rs j) reads p n) (residues m w h .turned (kernelTurn p (suc n) (radix rs j)) (reads (suc n)))
-      step e =
-          let r = radix rs j in
-          let t = p * suc n % r in
-          let before = total (residues m w h) r reads p n in
-          ap₂ (λ (y z : ℕ). (y + z * getD turns t 0) % m) e (row-cell (suc n) l)
-          ∙ ap (λ (y : ℕ). (before + reads (suc n) * y) % m) (turned t (turn-lt p (suc n) r l few))
-          ∙ term-reduced m before (reads (suc n)) (w ^ (h / r * t))
-          ∙ ap (λ (y : ℕ). (before + reads (suc n) * w ^ y % m) % m) (mul-comm (h / r) t)
+      each : (q : ℕ) → readOf m v M src i q ≡ read (lentBy m step turns) 1 M s r (cells src) i q
+      each zero = sym (read-first m v M src i (under i))
+      each (suc q) = power-product m step (i % s) (suc q) (cells src (i + suc q * M)) v e
 
-  -- output p is the schedule's
-  pub value-output : (p : ℕ) → value m (radix rs j) (h / radix rs j) v src turns i p ≡ output (plain (residues m w h)) (residues m w h) j (h / radix rs j) (stride rs j) (radix rs j) (cells src) i p
-  unfolding value output plain
-  value-output p =
-      ap (sumTo m (radix rs j) p x turns) {x = 7} {y = radix rs j - 1 + (8 - radix rs j)} (omega arith)
-      ∙ sum-stop m (radix rs j) p x turns (radix rs j - 1) (omega arith) (8 - radix rs j)
-      ∙ row-total p (radix rs j - 1) (omega arith)
+  -- and with the turns of a circle one of the schedule's stage j
+  pub lent-output : (w h j : ℕ) → r ≤ 8 → (j ≡ 0 → s ≡ 1) → step ≡ w ^ (h / (s * r)) % m → ((t : ℕ) → t < 8 → getD turns t 0 ≡ w ^ (h / r * t) % m)
+      → outputOf m step M s r src turns i p ≡ output plain (residues m w h) j M s r (cells src) i p
+  unfolding output lentBy residues read twiddledIn twiddleTurn turn kernelTurn
+  lent-output w h j few first stepping turned =
+      plain-same (lentBy m step turns) (residues m w h) (λ u v. refl) r _ _ p some (λ q l. (each q, by-turn q l))
+    where
+      each : (q : ℕ) → read (lentBy m step turns) 1 M s r (cells src) i q ≡ read (residues m w h) j M s r (cells src) i q
+      each zero = refl
+      each (suc q) =
+          let x = cells src (i + suc q * M) in
+          power-product m w (h / (s * r)) (i % s * suc q) x step stepping
+          ∙ ap (λ (n : ℕ). x * w ^ n % m) (mul-comm (h / (s * r)) (i % s * suc q))
+          ∙ sym (read-turned m w h j M s r (cells src) i (suc q) (sym (mod-eq-of-lt (under (i + suc q * M)))) first)
+
+      by-turn : (q : ℕ) → q < r → (z : ℕ) → z * getD turns (p * q % r) 0 % m ≡ turn m w h (kernelTurn p q r) z
+      by-turn q l z =
+          let t = p * q % r in
+          ap (λ (n : ℕ). z * n % m) (turned t (turn-lt p q r l few))
+          ∙ mul-mod z (w ^ (h / r * t)) m
+          ∙ ap (λ (n : ℕ). z * w ^ n % m) (mul-comm (h / r) t)

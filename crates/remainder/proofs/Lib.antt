@@ -3,10 +3,8 @@ pub mod Sums
 pub mod Step
 pub mod Blocks
 pub mod Powers
-pub mod Rows
-pub mod Shapes
-pub mod Arms
 pub mod Iteration
+pub mod Arms
 pub mod Columns
 pub mod Verdicts
 pub mod After

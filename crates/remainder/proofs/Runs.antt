@@ -31,7 +31,7 @@ module _ (p : Record) (m w : ℕ) (xs ys : List ℕ) (room : ℕ) (h : Drivable 
     workable : (t : Bool) → eqb (k % 2) 0 ≡ t → (src : List ℕ) (n : ℕ) → src ≡ sourceBy t (both k) → n ≡ p .half → Workable p k m w src n
     workable t e src n s f =
         let same : src ≡ after p m w xs (h .lent) k
-        = s ∙ ap (λ (u : Bool). sourceBy u (both k)) (sym e) ∙ source-run (residues m w (p .half)) (p .half) (inUse p) (xs, ys) k in
+        = s ∙ ap (λ (u : Bool). sourceBy u (both k)) (sym e) ∙ source-run plain (residues m w (p .half)) (p .half) (inUse p) (xs, ys) k in
         record {
           planned = h .lent .planned;
           known = l;
@@ -57,7 +57,7 @@ both-lengths p m w xs ys = both-long (λ j. stageOf p j m w) (xs, ys) (p .half) 
     made : (k : ℕ) (zs : List ℕ) → length (stageOf p k m w zs) ≡ p .half
     made k zs =
         let a = residues m w (p .half) in
-        length-stage (plain a) a k (p .half) (stride (inUse p) k) (radix (inUse p) k) zs
+        length-stage plain a k (p .half) (stride (inUse p) k) (radix (inUse p) k) zs
 
 -- ---- the verdict of a run
 
@@ -75,4 +75,4 @@ pub held-after : (p : Record) (m w : ℕ) (xs ys : List ℕ) (h : Lent p m w xs)
 unfolding driven resultIn
 held-after p m w xs ys h =
     held (eqb (p .count) 1) (eqb (p .count % 2) 0) (alternated (λ j. stageOf p j m w) (p .count) (xs, ys)) (λ e. ap (λ (n : ℕ). eqb (n % 2) 0) (eqb-true (p .count) 1 e))
-    ∙ source-run (residues m w (p .half)) (p .half) (inUse p) (xs, ys) (p .count)
+    ∙ source-run plain (residues m w (p .half)) (p .half) (inUse p) (xs, ys) (p .count)

@@ -84,7 +84,7 @@ module _ (m w h n s r : ℕ) (parts : h ≡ n * (s * r)) (circle : w ^ h % m ≡
 -- One stage: the block sums at the stride before it become those at the stride after it.
 module _ (m w h n : ℕ) (rs : List ℕ) (j : ℕ) (parts : h ≡ n * (stride rs j * radix rs j)) (circle : w ^ h % m ≡ 1 % m) (first : j ≡ 0 → stride rs j ≡ 1) (x : ℕ → ℕ) where
   output-block : 0 < stride rs j → 0 < radix rs j → (c : ℕ → ℕ) → Blocks m w h (stride rs j) x c → (b k : ℕ) → b < n
-      → output (plain (residues m w h)) (residues m w h) j (h / radix rs j) (stride rs j) (radix rs j) c (b * stride rs j + k % stride rs j) (k / stride rs j)
+      → output plain (residues m w h) j (h / radix rs j) (stride rs j) (radix rs j) c (b * stride rs j + k % stride rs j) (k / stride rs j)
       ≡ blockSum m w h (stride rs j * radix rs j) x b k
   unfolding blockSum output plain
   output-block ps pr c before b k lb =
@@ -101,7 +101,7 @@ module _ (m w h n : ℕ) (rs : List ℕ) (j : ℕ) (parts : h ≡ n * (stride rs
 
   pub stage-blocks : (c : ℕ → ℕ) → Blocks m w h (stride rs j) x c
       → Blocks m w h (stride rs j * radix rs j) x
-      (λ k. output (plain (residues m w h)) (residues m w h) j (h / radix rs j) (stride rs j) (radix rs j) c (iteration (stride rs j) (radix rs j) k) (place (stride rs j) (radix rs j) k))
+      (λ k. output plain (residues m w h) j (h / radix rs j) (stride rs j) (radix rs j) c (iteration (stride rs j) (radix rs j) k) (place (stride rs j) (radix rs j) k))
   stage-blocks c before b k lb lk =
       let s = stride rs j in
       let r = radix rs j in

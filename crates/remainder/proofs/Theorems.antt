@@ -15,7 +15,7 @@ use Rattle.counts.specs.Counts.{stride, resultIn}
 use Rattle.plan.specs.declared.Record.{Record}
 use Rattle.schedule.specs.Buffers.{Two, across, alternated, copiedBy, driven, heldIn}
 use Rattle.schedule.specs.Plans.{inUse}
-use Rattle.schedule.specs.Stage.{run}
+use Rattle.schedule.specs.Stage.{run, plain}
 use Rattle.schedule.proofs.Buffers.{sourceBy, source-run}
 use Rattle.schedule.proofs.Plans.{use-length, use-product}
 use Rattle.remainder.specs.Calls.{Lent, Chain, Called, Alternately, Stages, Runs, stageOf, stageVerdict, runOf, runVerdict}
@@ -33,7 +33,7 @@ module _ (p : Record) (m w : ℕ) (xs : List ℕ) (h : Lent p m w xs) where
       ∙ sym (all-taken (p .half) m w (after p m w xs h j) (p .half) (h .modulus) (h .base) (h .circle) (after-length p m w xs h j) refl _ refl (none-refused m (after p m w xs h j) (after-under p m w xs h j (le-of-lt l))))
 
   -- so a chain of calls leaves what the schedule states
-  pub chain-after : (j : ℕ) → j ≤ p .count → (zs : List ℕ) → Chain p m w j xs zs → zs ≡ run (residues m w (p .half)) (p .half) (inUse p) j xs
+  pub chain-after : (j : ℕ) → j ≤ p .count → (zs : List ℕ) → Chain p m w j xs zs → zs ≡ run plain (residues m w (p .half)) (p .half) (inUse p) j xs
   unfolding run
   chain-after zero l zs c = sym c
   chain-after (suc j) l zs (ys, (old, (r, (c, (e, s))))) =
@@ -92,7 +92,7 @@ module _ (p : Record) (m w : ℕ) (xs : List ℕ) (h : Lent p m w xs) where
       long = both-lengths p m w xs ys (h .long) e k
 
       taken : (src : List ℕ) (n : ℕ) → src ≡ sourceBy (eqb (k % 2) 0) stages → n ≡ p .half → stageVerdict p k m w src n ≡ Accepted
-      taken src n f g = ap₂ (stageVerdict p k m w) (f ∙ source-run (residues m w (p .half)) (p .half) (inUse p) (xs, ys) k) g ∙ each-accepted k l
+      taken src n f g = ap₂ (stageVerdict p k m w) (f ∙ source-run plain (residues m w (p .half)) (p .half) (inUse p) (xs, ys) k) g ∙ each-accepted k l
 
       go : c ≡ stages → (t : Bool) → eqb (k % 2) 0 ≡ t → Called t p k m w c r b → b ≡ across t (stageOf p k m w) stages
       go same true f (kept, s) =

@@ -13,9 +13,9 @@ use Rattle.plan.specs.Record.{isPlanned}
 use Rattle.plan.specs.declared.Record.{Record}
 use Rattle.schedule.specs.Buffers.{Two, driven}
 use Rattle.schedule.specs.Plans.{inUse}
-use Rattle.schedule.specs.Stage.{stage}
+use Rattle.schedule.specs.Stage.{stage, plain}
 use Rattle.remainder.specs.Residues.{residues, Under}
-use Rattle.remainder.specs.Rows as Rows
+use Rattle.remainder.specs.Parts as Parts
 
 -- the index of the first number not below m, or the length
 unfoldable pub firstLarge : ℕ → List ℕ → ℕ
@@ -45,7 +45,7 @@ runVerdict p m w xs room = verdict (not (isPlanned p) ⇒ NotPlanned 0 ∷ lentR
 
 -- the schedule's stage j of a plan in remainders
 abbrev pub stageOf : Record → (j m w : ℕ) → List ℕ → List ℕ
-stageOf p j m w xs = stage (residues m w (p .half)) (p .half) (inUse p) j xs
+stageOf p j m w xs = stage plain (residues m w (p .half)) (p .half) (inUse p) j xs
 
 -- what a run leaves in its two buffers: what the stage calls, written alternately, leave there, a single radix copied back
 abbrev pub runOf : Record → (m w : ℕ) → Two ℕ → Two ℕ
@@ -63,7 +63,7 @@ Runs p m w before r after = Settles (runVerdict p m w (before .0) (length (befor
 pub record Workable (p : Record) (j m w : ℕ) (src : List ℕ) (room : ℕ) : Type 0 where
   pub planned : isPlanned p ≡ true
   pub known : j < p .count
-  pub modulus : Rows.Modulus m
+  pub modulus : Parts.Modulus m
   pub base : w < m
   pub long : length src ≡ p .half
   pub wide : room ≡ p .half

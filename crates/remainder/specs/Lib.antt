@@ -1,4 +1,4 @@
 -- The definitions that contracts cite.
 pub mod Residues
-pub mod Rows
+pub mod Parts
 pub mod Calls

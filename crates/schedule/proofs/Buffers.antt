@@ -11,7 +11,7 @@ use lib.Dec.{eqb}
 use lib.ListN.{length, getD, set}
 use lib.Seq.{getD-set-same, getD-set-other, ext-getD}
 use borrow.Author.Tests.{eq-eqb, ne-eqb, eqb-true, eqb-false}
-use Rattle.schedule.specs.Stage.{Arith, stage, run}
+use Rattle.schedule.specs.Stage.{Kernel, Arith, stage, run}
 use Rattle.schedule.specs.Buffers.{Two, across, alternated, copiedBy, driven, heldIn}
 
 -- the buffer that stage k reads
@@ -34,14 +34,14 @@ across-source true g b = refl
 across-source false g b = refl
 
 -- stage k reads what the k stages before it made
-pub source-run : {A : Type 0} (a : Arith A) (h : ℕ) (rs : List ℕ) (b : Two A) (k : ℕ)
-    → sourceBy (eqb (k % 2) 0) (alternated (stage a h rs) k b) ≡ run a h rs k (b .0)
+pub source-run : {A : Type 0} (kernel : Kernel A) (a : Arith A) (h : ℕ) (rs : List ℕ) (b : Two A) (k : ℕ)
+    → sourceBy (eqb (k % 2) 0) (alternated (stage kernel a h rs) k b) ≡ run kernel a h rs k (b .0)
 unfolding alternated run
-source-run a h rs b zero = refl
-source-run a h rs b (suc k) =
-    ap (λ (t : Bool). sourceBy t (alternated (stage a h rs) (suc k) b)) (parity k)
-    ∙ across-source (eqb (k % 2) 0) (stage a h rs k) (alternated (stage a h rs) k b)
-    ∙ ap (stage a h rs k) (source-run a h rs b k)
+source-run kernel a h rs b zero = refl
+source-run kernel a h rs b (suc k) =
+    ap (λ (t : Bool). sourceBy t (alternated (stage kernel a h rs) (suc k) b)) (parity k)
+    ∙ across-source (eqb (k % 2) 0) (stage kernel a h rs k) (alternated (stage kernel a h rs) k b)
+    ∙ ap (stage kernel a h rs k) (source-run kernel a h rs b k)
 
 -- a single stage, t, and an even number, u: the named buffer holds what the last stage made
 pub held : {A : Type 0} (t u : Bool) (b : Two A) → (t ≡ true → u ≡ false) → heldIn (bufferBy (t || u)) (copiedBy t b) ≡ sourceBy u b

@@ -1,13 +1,12 @@
 -- Where a stage reads and writes, for any arithmetic.
 -- Assumes nothing.
-use mathlib.Core.Path.{_≡_, refl, sym, ap, ap₂, _∙_}
+use mathlib.Core.Path.{_≡_, refl, ap, ap₂, _∙_}
 use Prim.Native.Nat.{ℕ, zero, suc, _+_, _*_, _/_, _%_, _<_}
 use native.Mathlib.Nat.{zero-add, add-zero, add-suc, suc-add, zero-mul, mul-comm, zero-lt-suc, le-of-suc-le-suc, not-suc-le-zero, mod-lt, div-add-mod', div-lt-iff-lt-mul, mul-add-mod-self-right, mod-mod-of-dvd, dvd-mul-right, mul-pos, mul-div-le, div-eq-of-eq-mul-left}
 use native.Mathlib.Omega.{arith}
 use mathlib.Core.List.{List, _∷_}
 use lib.ListN.{length, getD}
 use lib.Arith.{digits-div, digits-mod, digits-lt}
-use lib.Seq.{ext-getD}
 use Rattle.schedule.specs.Stage.{Kernel, Arith, index, iteration, place, tabulate, output, stageBy}
 
 pub length-tabulate {ℓ} : {A : Type ℓ} (n i : ℕ) (f : ℕ → A) → length (tabulate n i f) ≡ n
@@ -105,17 +104,6 @@ module _ {A : Type 0} (kernel : Kernel A) (a : Arith A) (j h n s r : ℕ) (parts
       getD-tabulate h 0 _ (index s r i p) (a .blank) (index-lt s r i p ps lp h n parts li)
       ∙ rw (zero-add, iteration-index s r i p ps lp, place-index s r i p ps lp)
 
-  -- so a list of h cells that has every output in its place is what the stage makes
-  pub stage-by-outputs : 0 < r → (xs ys : List A) → length ys ≡ h
-      → ((i p : ℕ) → i < h / r → p < r → getD ys (index s r i p) (a .blank) ≡ output kernel a j (h / r) s r (λ q. getD xs q (a .blank)) i p)
-      → ys ≡ stageBy kernel a j h s r xs
-  unfolding stageBy
-  stage-by-outputs pr xs ys len outputs =
-      ext-getD (a .blank) ys _ (len ∙ sym (length-tabulate h 0 _)) (λ k l.
-      let lk : k < h = rw len at l in
-      rw (index-of-cell s r k ps pr) at (outputs (iteration s r k) (place s r k) (iteration-lt s r k ps pr h n parts lk) (place-lt s r k ps pr))
-      ∙ sym (getD-tabulate h 0 _ k (a .blank) lk ∙ rw zero-add))
-
 pub length-stage : {A : Type 0} (kernel : Kernel A) (a : Arith A) (j h s r : ℕ) (xs : List A) → length (stageBy kernel a j h s r xs) ≡ h
 unfolding stageBy
 length-stage kernel a j h s r xs = length-tabulate h 0 _
@@ -123,9 +111,3 @@ length-stage kernel a j h s r xs = length-tabulate h 0 _
 -- iteration i reads within the list
 pub read-lt : (h r i q : ℕ) → i < h / r → q < r → i + q * (h / r) < h
 read-lt h r i q li lq = omega (arith, digits-lt lq li, mul-div-le h r)
-
--- ---- counting along: the address of iteration b * s + k, in block b and column k
-
-pub index-block : (s r b k p : ℕ) → k < s → index s r (b * s + k) p ≡ b * (s * r) + k + p * s
-unfolding index
-index-block s r b k p lk = rw (digits-div b lk, digits-mod b lk)

@@ -1,144 +1,170 @@
--- How a loop fills a stage's cells, column by column: what is written stays in place, and at the end every output is. Assumes nothing.
-use mathlib.Core.Path.{_≡_, refl, sym, ap, ap₂, _∙_}
+-- How loops fill a stage's cells, for any arithmetic: one cell after the other, the outputs of more iterations, and at the end the stage.
+-- Assumes nothing.
+use mathlib.Core.Path.{_≡_, refl, sym, ap, _∙_}
+use mathlib.Core.Logic.{_⊎_, inl, inr}
 use mathlib.Core.List.{List}
-use Prim.Native.Nat.{ℕ, zero, suc, _+_, _*_, _/_, _%_, _≤_, _<_}
-use native.Mathlib.Nat.{not-suc-le-zero, mod-lt, div-add-mod', div-lt-iff-lt-mul}
-use native.Mathlib.Numerals.{add-one}
+use Prim.Native.Nat.{ℕ, _+_, _-_, _*_, _/_, _%_, _≤_, _<_}
+use native.Mathlib.Nat.{zero-add, div-add-mod'}
 use native.Mathlib.Omega.{arith}
-use native.Mathlib.Decide.{ℕ-discrete}
-use lib.ListN.{length, getD, set, length-set}
-use lib.Arith.{digits-lt}
-use lib.Seq.{getD-set-same, getD-set-other}
-use Rattle.schedule.specs.Stage.{Kernel, Arith, index, iteration, place, output, stageBy, putOutputs, putColumn, putColumns}
-use Rattle.schedule.proofs.Cells.{iteration-index, place-index, index-lt, by-radix, stage-by-outputs}
+use native.Mathlib.Decide.{ℕ-discrete, decLe}
+use lib.ListN.{length, getD, set}
+use lib.Arith.{digits-div, digits-mod}
+use lib.Seq.{getD-set-same, getD-set-other, ext-getD}
+use Rattle.schedule.specs.Stage.{Kernel, Arith, index, iteration, place, output, stageBy}
+use Rattle.schedule.specs.Parts.{Wrote, Every, Done}
+use Rattle.schedule.proofs.Cells.{iteration-index, place-index, iteration-lt, place-lt, index-of-cell, length-tabulate, getD-tabulate}
 
-module _ {A : Type 0} (s r h n : ℕ) (parts : h ≡ n * (s * r)) (ps : 0 < s) (pr : 0 < r) (v : ℕ → ℕ → A) (d : A) where
-  -- output p of iteration i is in its cell
-  abbrev pub Placed : List A → ℕ → ℕ → Type 0
-  Placed ys i p = getD ys (index s r i p) d ≡ v i p
+-- ---- cell after cell
 
-  -- writing an output puts it in place
-  pub placed-here : (ys : List A) (i p : ℕ) → i < h / r → p < r → length ys ≡ h → Placed (set ys (index s r i p) (v i p)) i p
-  placed-here ys i p li lp e = getD-set-same ys (index s r i p) (v i p) d (rw e (index-lt s r i p ps lp h n parts li))
+module _ {A : Type 0} {at : ℕ → ℕ} {g : ℕ → A} {c : ℕ → A} where
+  pub wrote-none : {T : ℕ → Type 0} → ((t : ℕ) → T t → ⊥) → Wrote T at g c c
+  wrote-none none = record { inside = λ t l. absurd (none t l); outside = λ k o. refl }
 
-  -- and keeps every other in place
-  pub placed-still : (ys : List A) (i p i′ p′ : ℕ) → i < h / r → p < r → p′ < r → length ys ≡ h → Placed ys i′ p′ → Placed (set ys (index s r i p) (v i p)) i′ p′
-  placed-still ys i p i′ p′ li lp lp′ e f = pick (ℕ-discrete (index s r i′ p′) (index s r i p))
+  -- one more, at n
+  pub wrote-next : {T U : ℕ → Type 0} {c′ c″ : ℕ → A} (n : ℕ) → U n → ((t : ℕ) → T t → U t)
+      → ((t : ℕ) → U t → (t ≡ n → ⊥) → T t × (at t ≡ at n → ⊥))
+      → c″ (at n) ≡ g n → ((k : ℕ) → (k ≡ at n → ⊥) → c″ k ≡ c′ k) → Wrote T at g c c′ → Wrote U at g c c″
+  wrote-next {U = U} {c″ = c″} n last old new here else w =
+      record {
+        inside = λ t u. pick t u (ℕ-discrete t n);
+        outside = λ k o. else k (o n last) ∙ w .outside k (λ t l. o t (old t l));
+      }
     where
-      pick : Dec (index s r i′ p′ ≡ index s r i p) → getD (set ys (index s r i p) (v i p)) (index s r i′ p′) d ≡ v i′ p′
-      pick (yes g) =
-          let same-i : i′ ≡ i = sym (iteration-index s r i′ p′ ps lp′) ∙ ap (iteration s r) g ∙ iteration-index s r i p ps lp in
-          let same-p : p′ ≡ p = sym (place-index s r i′ p′ ps lp′) ∙ ap (place s r) g ∙ place-index s r i p ps lp in
-          rw (same-i, same-p) (placed-here ys i p li lp e)
-      pick (no g) = getD-set-other ys (index s r i p) (index s r i′ p′) (v i p) d g ∙ f
+      pick : (t : ℕ) → U t → Dec (t ≡ n) → c″ (at t) ≡ g t
+      pick t u (yes e) = rw e here
+      pick t u (no f) = let b = new t u f in else (at t) (b .1) ∙ w .inside t (b .0)
 
-  pub length-outputs : (i : ℕ) (ys : List A) (k : ℕ) → length (putOutputs s r i (v i) ys k) ≡ length ys
-  unfolding putOutputs
-  length-outputs i ys zero = refl
-  length-outputs i ys (suc k) = length-set (putOutputs s r i (v i) ys k) (index s r i k) (v i k) ∙ length-outputs i ys k
-
-  -- the outputs of an iteration are in place once they are written
-  outputs-placed : (i : ℕ) (ys : List A) → i < h / r → length ys ≡ h → (k : ℕ) → k ≤ r → (p : ℕ) → p < k → Placed (putOutputs s r i (v i) ys k) i p
-  unfolding putOutputs
-  outputs-placed i ys li e zero l p lp = absurd (not-suc-le-zero lp)
-  outputs-placed i ys li e (suc k) l p lp = pick (ℕ-discrete p k) (outputs-placed i ys li e k (omega arith) p)
+  -- first those of T, then those of U
+  pub wrote-both : {T U X : ℕ → Type 0} {c′ c″ : ℕ → A} → ((t : ℕ) → T t → X t) → ((t : ℕ) → U t → X t)
+      → ((t : ℕ) → X t → U t ⊎ (T t × ((u : ℕ) → U u → at t ≡ at u → ⊥))) → Wrote T at g c c′ → Wrote U at g c′ c″ → Wrote X at g c c″
+  wrote-both {T} {U} {c″ = c″} one two which w x =
+      record {
+        inside = λ t l. pick t (which t l);
+        outside = λ k o. x .outside k (λ t l. o t (two t l)) ∙ w .outside k (λ t l. o t (one t l));
+      }
     where
-      rest : List A
-      rest = putOutputs s r i (v i) ys k
+      pick : (t : ℕ) → U t ⊎ (T t × ((u : ℕ) → U u → at t ≡ at u → ⊥)) → c″ (at t) ≡ g t
+      pick t (inl u) = x .inside t u
+      pick t (inr (l, far)) = x .outside (at t) far ∙ w .inside t l
 
-      long : length rest ≡ h
-      long = length-outputs i ys k ∙ e
+  pub wrote-told : {T U : ℕ → Type 0} {c′ : ℕ → A} → ((t : ℕ) → T t → U t) → ((t : ℕ) → U t → T t) → Wrote T at g c c′ → Wrote U at g c c′
+  wrote-told to from w = record { inside = λ t u. w .inside t (from t u); outside = λ k o. w .outside k (λ t l. o t (to t l)) }
 
-      pick : Dec (p ≡ k) → (p < k → Placed rest i p) → Placed (set rest (index s r i k) (v i k)) i p
-      pick (yes g) f = rw g (placed-here rest i k li (omega arith) long)
-      pick (no g) f = placed-still rest i k i p li (omega arith) (omega arith) long (f (omega arith))
+  -- the same, told otherwise
+  pub wrote-as : {T : ℕ → Type 0} {at′ : ℕ → ℕ} {g′ : ℕ → A} {c′ : ℕ → A} → ((t : ℕ) → T t → (at t ≡ at′ t) × (g t ≡ g′ t))
+      → Wrote T at g c c′ → Wrote T at′ g′ c c′
+  wrote-as {c′ = c′} same w =
+      record {
+        inside = λ t l. ap c′ (sym (same t l .0)) ∙ w .inside t l ∙ same t l .1;
+        outside = λ k o. w .outside k (λ t l e. o t l (e ∙ same t l .0));
+      }
 
-  -- and keep those of other iterations
-  outputs-still : (i i′ p′ : ℕ) (ys : List A) → i < h / r → p′ < r → length ys ≡ h → Placed ys i′ p′ → (k : ℕ) → k ≤ r → Placed (putOutputs s r i (v i) ys k) i′ p′
-  unfolding putOutputs
-  outputs-still i i′ p′ ys li lp e f zero l = f
-  outputs-still i i′ p′ ys li lp e f (suc k) l =
-      placed-still (putOutputs s r i (v i) ys k) i k i′ p′ li (omega arith) lp (length-outputs i ys k ∙ e) (outputs-still i i′ p′ ys li lp e f k (omega arith))
+-- ---- every second one: n after those below it of its parity, and the even ones and the odd ones are all
 
-  -- a column of n blocks
-  column-lt : (b k : ℕ) → b < n → k < s → b * s + k < h / r
-  column-lt b k lb lk = rw (by-radix h n s r parts ps pr) (digits-lt lb lk)
+module _ {A : Type 0} {at : ℕ → ℕ} {g : ℕ → A} {c : ℕ → A} (apart : (t u : ℕ) → at t ≡ at u → t ≡ u) where
+  pub every-next : (b n : ℕ) {c′ c″ : ℕ → A} → n % 2 ≡ b → c″ (at n) ≡ g n → ((k : ℕ) → (k ≡ at n → ⊥) → c″ k ≡ c′ k)
+      → Wrote (Every b n) at g c c′ → Wrote (Every b (n + 2)) at g c c″
+  every-next b n e = wrote-next n (omega arith, e) (λ t l. (omega arith, l .1)) (λ t u f. ((omega (arith, f), u .1), λ x. f (apart t n x)))
 
-  pub length-column : (k : ℕ) (ys : List A) (b : ℕ) → length (putColumn s r k v ys b) ≡ length ys
-  unfolding putColumn
-  length-column k ys zero = refl
-  length-column k ys (suc b) = length-outputs (b * s + k) (putColumn s r k v ys b) r ∙ length-column k ys b
-
-  column-placed : (k : ℕ) (ys : List A) → k < s → length ys ≡ h → (c : ℕ) → c ≤ n → (b p : ℕ) → b < c → p < r → Placed (putColumn s r k v ys c) (b * s + k) p
-  unfolding putColumn
-  column-placed k ys lk e zero l b p lb lp = absurd (not-suc-le-zero lb)
-  column-placed k ys lk e (suc c) l b p lb lp = pick (ℕ-discrete b c) (λ g. column-placed k ys lk e c (omega arith) b p g lp)
+  pub every-both : (r : ℕ) {c′ c″ : ℕ → A} → Wrote (Every 0 r) at g c c′ → Wrote (Every 1 r) at g c′ c″ → Wrote (λ t. t < r) at g c c″
+  every-both r = wrote-both (λ t l. l .0) (λ t l. l .0) (λ t l. pick t l (ℕ-discrete (t % 2) 0))
     where
-      rest : List A
-      rest = putColumn s r k v ys c
+      pick : (t : ℕ) → t < r → Dec (t % 2 ≡ 0) → Every 1 r t ⊎ (Every 0 r t × ((u : ℕ) → Every 1 r u → at t ≡ at u → ⊥))
+      pick t l (yes e) = inr ((l, e), λ u lu x. let same = apart t u x in odd u (lu .1) same)
+        where
+          odd : (u : ℕ) → u % 2 ≡ 1 → t ≡ u → ⊥
+          odd u f same = omega (arith, e, f, ap (λ (k : ℕ). k % 2) same)
+      pick t l (no e) = inl (l, omega (arith, e))
 
-      long : length rest ≡ h
-      long = length-column k ys c ∙ e
+-- a loop past the last of them
+pub every-end : {A : Type 0} {at : ℕ → ℕ} {g c c′ : ℕ → A} (b n r : ℕ) → n % 2 ≡ b → r ≤ n → n ≤ r + 1 → Wrote (Every b n) at g c c′ → Wrote (Every b r) at g c c′
+every-end b n r e l m = wrote-told (λ t x. (omega (arith, x .1), x .1)) (λ t x. (omega arith, x .1))
 
-      pick : Dec (b ≡ c) → (b < c → Placed rest (b * s + k) p) → Placed (putOutputs s r (c * s + k) (v (c * s + k)) rest r) (b * s + k) p
-      pick (yes g) f = rw g (outputs-placed (c * s + k) rest (column-lt c k (omega arith) lk) long r (omega arith) p lp)
-      pick (no g) f = outputs-still (c * s + k) (b * s + k) p rest (column-lt c k (omega arith) lk) lp long (f (omega arith)) r (omega arith)
+pub every-none : {A : Type 0} {at : ℕ → ℕ} {g c : ℕ → A} (b : ℕ) → b < 2 → Wrote (Every b b) at g c c
+every-none b l = wrote-none (λ t x. omega (arith, x .1))
 
-  column-still : (k i′ p′ : ℕ) (ys : List A) → k < s → p′ < r → length ys ≡ h → Placed ys i′ p′ → (c : ℕ) → c ≤ n → Placed (putColumn s r k v ys c) i′ p′
-  unfolding putColumn
-  column-still k i′ p′ ys lk lp e f zero l = f
-  column-still k i′ p′ ys lk lp e f (suc c) l =
-      outputs-still (c * s + k) i′ p′ (putColumn s r k v ys c) (column-lt c k (omega arith) lk) lp (length-column k ys c ∙ e)
-      (column-still k i′ p′ ys lk lp e f c (omega arith)) r (omega arith)
+-- one more element of a list as it should be
+pub set-more : {A : Type 0} (f : ℕ → A) (xs : List A) (n : ℕ) (v d : A) → n < length xs → v ≡ f n → ((k : ℕ) → k < n → getD xs k d ≡ f k)
+    → (k : ℕ) → k < n + 1 → getD (set xs n v) k d ≡ f k
+set-more f xs n v d l e before k lk = pick (ℕ-discrete k n)
+  where
+    pick : Dec (k ≡ n) → getD (set xs n v) k d ≡ f k
+    pick (yes s) = rw s (getD-set-same xs n v d l ∙ e)
+    pick (no s) = getD-set-other xs n k v d s ∙ before k (omega (arith, s))
 
-  pub length-columns : (ys : List A) (k : ℕ) → length (putColumns s r n v ys k) ≡ length ys
-  unfolding putColumns
-  length-columns ys zero = refl
-  length-columns ys (suc k) = length-column k (putColumns s r n v ys k) n ∙ length-columns ys k
+-- ---- more outputs in their cells
 
-  columns-placed : (ys : List A) → length ys ≡ h → (c : ℕ) → c ≤ s → (b k p : ℕ) → b < n → k < c → p < r → Placed (putColumns s r n v ys c) (b * s + k) p
-  unfolding putColumns
-  columns-placed ys e zero l b k p lb lk lp = absurd (not-suc-le-zero lk)
-  columns-placed ys e (suc c) l b k p lb lk lp = pick (ℕ-discrete k c) (λ g. columns-placed ys e c (omega arith) b k p lb g lp)
+-- two outputs share no cell
+pub same-place : (s r i p i′ p′ : ℕ) → 0 < s → p < r → p′ < r → index s r i p ≡ index s r i′ p′ → (i ≡ i′) × (p ≡ p′)
+same-place s r i p i′ p′ ps lp lp′ e = (
+  sym (iteration-index s r i p ps lp) ∙ ap (iteration s r) e ∙ iteration-index s r i′ p′ ps lp′,
+  sym (place-index s r i p ps lp) ∙ ap (place s r) e ∙ place-index s r i′ p′ ps lp′,
+)
+
+module _ {A : Type 0} (s r : ℕ) (v : ℕ → ℕ → A) (ps : 0 < s) {D E : ℕ → ℕ → Type 0} {c c′ : ℕ → A} where
+  -- output p t of iteration i t, for every t of T
+  done-more : {T : ℕ → Type 0} (i p : ℕ → ℕ) → ((t : ℕ) → T t → p t < r) → Wrote T (λ t. index s r (i t) (p t)) (λ t. v (i t) (p t)) c c′
+      → ((i′ p′ : ℕ) → E i′ p′ → p′ < r → ((t : ℕ) × (T t × ((i′ ≡ i t) × (p′ ≡ p t)))) ⊎ (((t : ℕ) → T t → i′ ≡ i t → p′ ≡ p t → ⊥) × D i′ p′))
+      → Done s r v c D → Done s r v c′ E
+  done-more {T} i p few w which before i′ p′ e lp = pick (which i′ p′ e lp)
     where
-      rest : List A
-      rest = putColumns s r n v ys c
+      pick : ((t : ℕ) × (T t × ((i′ ≡ i t) × (p′ ≡ p t)))) ⊎ (((t : ℕ) → T t → i′ ≡ i t → p′ ≡ p t → ⊥) × D i′ p′) → c′ (index s r i′ p′) ≡ v i′ p′
+      pick (inl (t, (l, (a, b)))) = rw (a, b) (w .inside t l)
+      pick (inr (far, d)) =
+          w .outside (index s r i′ p′) (λ t l x. let m = same-place s r i′ p′ (i t) (p t) ps lp (few t l) x in far t l (m .0) (m .1))
+          ∙ before i′ p′ d lp
 
-      long : length rest ≡ h
-      long = length-columns ys c ∙ e
+  -- all outputs of one more iteration
+  pub done-iteration : (i : ℕ) → ((i′ p′ : ℕ) → E i′ p′ → (i′ ≡ i → ⊥) → D i′ p′) → Wrote (λ p. p < r) (index s r i) (v i) c c′
+      → Done s r v c D → Done s r v c′ E
+  done-iteration i new w = done-more (λ t. i) (λ t. t) (λ t l. l) w (λ i′ p′ e lp. pick i′ p′ e lp (ℕ-discrete i′ i))
+    where
+      pick : (i′ p′ : ℕ) → E i′ p′ → p′ < r → Dec (i′ ≡ i)
+          → ((t : ℕ) × ((t < r) × ((i′ ≡ i) × (p′ ≡ t)))) ⊎ (((t : ℕ) → t < r → i′ ≡ i → p′ ≡ t → ⊥) × D i′ p′)
+      pick i′ p′ e lp (yes a) = inl (p′, (lp, (a, refl)))
+      pick i′ p′ e lp (no f) = inr (λ t l a b. f a, new i′ p′ e f)
 
-      pick : Dec (k ≡ c) → (k < c → Placed rest (b * s + k) p) → Placed (putColumn s r c v rest n) (b * s + k) p
-      pick (yes g) f = rw g (column-placed c rest (omega arith) long n (omega arith) b p lb lp)
-      pick (no g) f = column-still c (b * s + k) p rest (omega arith) lp long (f (omega arith)) n (omega arith)
+-- ---- consecutive iterations of one block, one output after the other
 
-  -- every output of every iteration is in place when all columns are written
-  pub all-placed : (ys : List A) → length ys ≡ h → (i p : ℕ) → i < h / r → p < r → Placed (putColumns s r n v ys s) i p
-  all-placed ys e i p li lp =
-      rw (← div-add-mod' i s)
-      (columns-placed ys e s (omega arith) (i / s) (i % s) p (div-lt-iff-lt-mul ps .1 (rw (by-radix h n s r parts ps pr) at li)) (mod-lt i ps) lp)
+-- their cells are consecutive
+pub index-run : (s r i p t : ℕ) → i % s + t < s → index s r (i + t) p ≡ index s r i p + t
+unfolding index
+index-run s r i p t l =
+    let e : i + t ≡ i / s * s + (i % s + t) = omega (arith, div-add-mod' i s) in
+    rw (e, digits-div (i / s) l, digits-mod (i / s) l) (omega arith)
 
--- so the columns written one after the other are the stage
-pub columns-stage : {A : Type 0} (kernel : Kernel A) (a : Arith A) (j h n s r : ℕ) → h ≡ n * (s * r) → 0 < s → 0 < r → (xs ys : List A) → length ys ≡ h
-    → putColumns s r n (output kernel a j (h / r) s r (λ q. getD xs q (a .blank))) ys s ≡ stageBy kernel a j h s r xs
-columns-stage kernel a j h n s r parts ps pr xs ys e =
-    let v = output kernel a j (h / r) s r (λ q. getD xs q (a .blank)) in
-    stage-by-outputs kernel a j h n s r parts ps pr xs (putColumns s r n v ys s) (length-columns s r h n parts ps pr v (a .blank) ys s ∙ e)
-    (all-placed s r h n parts ps pr v (a .blank) ys e)
+-- the iterations below i are done, and of the n from i on the outputs below p
+abbrev pub Rowed : {A : Type 0} → (s r : ℕ) → (ℕ → ℕ → A) → (ℕ → A) → (i n p : ℕ) → Type 0
+Rowed s r v c i n p = Done s r v c (λ i′ p′. (i′ < i + n) × (i ≤ i′ → p′ < p))
 
--- a column rests on the values of its own iterations
-pub column-equal : {A : Type 0} (s r k : ℕ) (f g : ℕ → ℕ → A) → ((b : ℕ) → f (b * s + k) ≡ g (b * s + k)) → (ys : List A) (n : ℕ) → putColumn s r k f ys n ≡ putColumn s r k g ys n
-unfolding putColumn
-column-equal s r k f g e ys zero = refl
-column-equal {A} s r k f g e ys (suc b) = ap₂ (λ (u : ℕ → A) (zs : List A). putOutputs s r (b * s + k) u zs r) (e b) (column-equal s r k f g e ys b)
+module _ {A : Type 0} (s r : ℕ) (v : ℕ → ℕ → A) (i n : ℕ) where
+  pub rowed-none : (c : ℕ → A) → Done s r v c (λ i′ p′. i′ < i) → Rowed s r v c i n 0
+  rowed-none c before i′ p′ (li, l) = before i′ p′ (pick (decLe i i′))
+    where
+      pick : Dec (i ≤ i′) → i′ < i
+      pick (yes a) = absurd (omega (arith, l a))
+      pick (no a) = omega (arith, a)
 
--- one column more
-pub columns-next : {A : Type 0} (s r n k : ℕ) (f g : ℕ → ℕ → A) (ys zs out : List A) → ((b : ℕ) → f (b * s + k) ≡ g (b * s + k))
-    → zs ≡ putColumns s r n g ys k → out ≡ putColumn s r k f zs n → out ≡ putColumns s r n g ys (k + 1)
-unfolding putColumns
-columns-next s r n k f g ys zs out same e d =
-    d ∙ column-equal s r k f g same zs n ∙ ap (λ (us : List _). putColumn s r k g us n) e ∙ ap (putColumns s r n g ys) (sym (add-one k))
+  -- a row of n cells
+  pub rowed-step : 0 < s → i % s + n ≤ s → (p : ℕ) → p < r → {c c′ : ℕ → A} → Wrote (λ t. t < n) (λ t. index s r i p + t) (λ t. v (i + t) p) c c′
+      → Rowed s r v c i n p → Rowed s r v c′ i n (p + 1)
+  rowed-step ps one p lp w =
+      done-more s r v ps (λ t. i + t) (λ t. p) (λ t l. lp) (wrote-as (λ t l. (sym (index-run s r i p t (omega arith)), refl)) w)
+      (λ i′ p′ (li, l) lp′. pick i′ p′ li l (ℕ-discrete p′ p) (decLe i i′))
+    where
+      pick : (i′ p′ : ℕ) → i′ < i + n → (i ≤ i′ → p′ < p + 1) → Dec (p′ ≡ p) → Dec (i ≤ i′)
+          → ((t : ℕ) × ((t < n) × ((i′ ≡ i + t) × (p′ ≡ p)))) ⊎ (((t : ℕ) → t < n → i′ ≡ i + t → p′ ≡ p → ⊥) × ((i′ < i + n) × (i ≤ i′ → p′ < p)))
+      pick i′ p′ li l (yes e) (yes a) = inl (i′ - i, (omega arith, (omega arith, e)))
+      pick i′ p′ li l (yes e) (no a) = inr (λ t lt x y. a (omega arith), (li, λ x. absurd (a x)))
+      pick i′ p′ li l (no e) d = inr (λ t lt x y. e y, (li, λ x. omega (arith, l x, e)))
 
--- no column
-pub columns-none : {A : Type 0} (s r n : ℕ) (g : ℕ → ℕ → A) (ys : List A) → ys ≡ putColumns s r n g ys 0
-unfolding putColumns
-columns-none s r n g ys = refl
+-- ---- all outputs in their cells make the stage
+
+pub done-stage : {A : Type 0} (kernel : Kernel A) (a : Arith A) (j h n s r : ℕ) → h ≡ n * (s * r) → 0 < s → 0 < r → (xs ys : List A) → length ys ≡ h
+    → Done s r (output kernel a j (h / r) s r (λ q. getD xs q (a .blank))) (λ k. getD ys k (a .blank)) (λ i p. i < h / r) → ys ≡ stageBy kernel a j h s r xs
+unfolding stageBy
+done-stage kernel a j h n s r parts ps pr xs ys len done =
+    ext-getD (a .blank) ys _ (len ∙ sym (length-tabulate h 0 _)) (λ k l.
+    let lk : k < h = rw len at l in
+    rw (index-of-cell s r k ps pr) at (done (iteration s r k) (place s r k) (iteration-lt s r k ps pr h n parts lk) (place-lt s r k ps pr))
+    ∙ sym (getD-tabulate h 0 _ k (a .blank) lk ∙ rw zero-add))

@@ -2,5 +2,6 @@
 pub mod Cells
 pub mod Strides
 pub mod Fill
+pub mod Sums
 pub mod Plans
 pub mod Buffers

@@ -3,7 +3,7 @@
 -- Assumes nothing.
 use Prim.Native.Nat.{ℕ, zero, suc, _+_, _-_, _*_, _/_, _%_}
 use mathlib.Core.List.{List, [], _∷_}
-use lib.ListN.{getD, set}
+use lib.ListN.{getD}
 use Rattle.counts.specs.Counts.{radix, stride}
 
 -- ---- which turn stands where
@@ -45,9 +45,9 @@ pub record Arith (A : Type 0) : Type 0 where
   -- a cell turned by twiddle q of iteration i of stage j, which is this part of a circle
   pub twiddled : (j i q : ℕ) → Part → A → A
 
--- From the cells that an iteration reads, numbered from 0, to its outputs: for each radix.
+-- From the cells that an iteration reads, numbered from 0, to its outputs: by an arithmetic, for each radix.
 abbrev pub Kernel : Type 0 → Type 0
-Kernel A = (r : ℕ) → (ℕ → A) → ℕ → A
+Kernel A = Arith A → (r : ℕ) → (ℕ → A) → ℕ → A
 
 -- f n, f (n + 1), ..: k cells
 unfoldable pub tabulate {ℓ} : {A : Type ℓ} → (k n : ℕ) → (ℕ → A) → List A
@@ -71,41 +71,23 @@ module _ {A : Type 0} where
   total a r x p (suc q) = a .plus (total a r x p q) (a .turned (kernelTurn p (suc q) r) (x (suc q)))
 
   -- the plain sum is one kernel
-  unfoldable pub plain : Arith A → Kernel A
+  unfoldable pub plain : Kernel A
   plain a r x p = total a r x p (r - 1)
 
   -- output p of iteration i of stage j, from the cells c
   unfoldable pub output : Kernel A → Arith A → (j M s r : ℕ) → (ℕ → A) → (i p : ℕ) → A
-  output kernel a j M s r c i p = kernel r (read a j M s r c i) p
+  output kernel a j M s r c i p = kernel a r (read a j M s r c i) p
 
-  -- the h cells that stage j makes of a list, by any kernel
+  -- the h cells that stage j makes of a list
   unfoldable pub stageBy : Kernel A → Arith A → (j h s r : ℕ) → List A → List A
   stageBy kernel a j h s r xs =
       tabulate h 0 (λ n. output kernel a j (h / r) s r (λ k. getD xs k (a .blank)) (iteration s r n) (place s r n))
 
-  -- stage j of the radices rs, by the plain sum
-  unfoldable pub stage : Arith A → (h : ℕ) → List ℕ → ℕ → List A → List A
-  stage a h rs j xs = stageBy (plain a) a j h (stride rs j) (radix rs j) xs
+  -- stage j of the radices rs
+  unfoldable pub stage : Kernel A → Arith A → (h : ℕ) → List ℕ → ℕ → List A → List A
+  stage kernel a h rs j xs = stageBy kernel a j h (stride rs j) (radix rs j) xs
 
   -- after the first j stages
-  unfoldable pub run : Arith A → (h : ℕ) → List ℕ → ℕ → List A → List A
-  run a h rs zero xs = xs
-  run a h rs (suc j) xs = stage a h rs j (run a h rs j xs)
-
--- ---- the same stage, output by output
-
-module _ {A : Type 0} where
-  -- the first n outputs v of iteration i written to their cells
-  unfoldable pub putOutputs : (s r i : ℕ) → (ℕ → A) → List A → ℕ → List A
-  putOutputs s r i v ys zero = ys
-  putOutputs s r i v ys (suc p) = set (putOutputs s r i v ys p) (index s r i p) (v p)
-
-  -- the outputs of the first n blocks of column k
-  unfoldable pub putColumn : (s r k : ℕ) → (ℕ → ℕ → A) → List A → ℕ → List A
-  putColumn s r k v ys zero = ys
-  putColumn s r k v ys (suc b) = putOutputs s r (b * s + k) (v (b * s + k)) (putColumn s r k v ys b) r
-
-  -- the outputs of the first n columns, of B blocks each
-  unfoldable pub putColumns : (s r B : ℕ) → (ℕ → ℕ → A) → List A → ℕ → List A
-  putColumns s r B v ys zero = ys
-  putColumns s r B v ys (suc k) = putColumn s r k v (putColumns s r B v ys k) B
+  unfoldable pub run : Kernel A → Arith A → (h : ℕ) → List ℕ → ℕ → List A → List A
+  run kernel a h rs zero xs = xs
+  run kernel a h rs (suc j) xs = stage kernel a h rs j (run kernel a h rs j xs)

@@ -17,17 +17,16 @@ use Rattle.plan.specs.declared.Record.{Record}
 use Rattle.counts.proofs.Counts.{count-later}
 use Rattle.schedule.specs.Buffers.{Two, across, alternated, driven, heldIn}
 use Rattle.schedule.specs.Plans.{inUse}
-use Rattle.schedule.specs.Stage.{twiddleTurn, kernelTurn, total, iteration, place as placeOf, twiddledIn, read, plain, output, stageBy, stage, run}
+use Rattle.schedule.specs.Stage.{twiddleTurn, iteration, place as placeOf, twiddledIn, read, plain, output, stageBy, stage, run}
 use Rattle.schedule.proofs.Buffers.{sourceBy, source-run, held}
 use Rattle.schedule.proofs.Cells.{iteration-lt, tabulate-same}
+use Rattle.schedule.proofs.Sums.{total-same, plain-same}
 use Rattle.schedule.proofs.Plans.{use-parts, use-radix, use-radix-some, use-stride-some}
-use Rattle.turn.specs.Turns.{turnOf}
 use Rattle.twiddle.specs.Places.{place}
 use Rattle.floats.specs.declared.complex.Complex.{Complex}
-use Rattle.floats.specs.Complexes.{cx, plus, times, turnedBy, cell, paired, flat}
+use Rattle.floats.specs.Complexes.{cx, times, cell, paired, flat}
 use Rattle.floats.proofs.Flat.{paired-flat, flat-paired}
 use Rattle.kernel.specs.Floats.{floats, houseFloats, lentAt, stageOf}
-use Rattle.kernel.proofs.Kernel.{total-same}
 use Rattle.kernel.proofs.Widths.{place-lt}
 use Rattle.stage.specs.Runs.{ownOf, stageIn, runOf, lentTo, turning, Agree, AgreeAll}
 
@@ -42,37 +41,33 @@ module _ (lent lent′ : ℕ → ℕ → ℕ → Complex) (j h n s r : ℕ) (par
       go zero f = refl
       go (suc j) f = ap (times (c (i + suc q * (h / r)))) (f (omega arith) i (suc q) li (omega arith) lq)
 
-  pub stage-agree : (xs : List Complex) → stageBy (plain (floats lent)) (floats lent) j h s r xs ≡ stageBy (plain (floats lent′)) (floats lent′) j h s r xs
-  unfolding stageBy output plain floats
+  pub stage-agree : (xs : List Complex) → stageBy plain (floats lent) j h s r xs ≡ stageBy plain (floats lent′) j h s r xs
+  unfolding stageBy output floats
   stage-agree xs =
       tabulate-same h 0 _ _ (λ k l.
       let lk : 0 + k < h = omega arith in
-      total-same lent lent′ r _ _ (placeOf s r (0 + k)) (r - 1) (λ q lq. read-agree _ (iteration s r (0 + k)) q (iteration-lt s r (0 + k) ps pr h n parts lk) (omega arith)))
+      plain-same (floats lent) (floats lent′) (λ u w. refl) r _ _ (placeOf s r (0 + k)) pr (λ q lq. (read-agree _ (iteration s r (0 + k)) q (iteration-lt s r (0 + k) ps pr h n parts lk) lq, λ z. refl)))
 
 -- ---- lent the words of its own turns, a stage is the schedule with the house table's turns
 
 module _ (h : ℕ) (rs : List ℕ) where
-  total-housed : (lent : ℕ → ℕ → ℕ → Complex) (r : ℕ) (x y : ℕ → Complex) (p n : ℕ) → ((q : ℕ) → x q ≡ y q) → total (floats lent) r x p n ≡ total houseFloats r y p n
-  unfolding total floats houseFloats
-  total-housed lent r x y p zero e = e 0
-  total-housed lent r x y p (suc n) e = ap₂ plus (total-housed lent r x y p n e) (ap (turnedBy (turnOf (kernelTurn p (suc n) r))) (e (suc n)))
-
   read-housed : (j M : ℕ) (c : ℕ → Complex) (i q : ℕ) → read (floats (turning rs)) j M (stride rs j) (radix rs j) c i q ≡ read houseFloats j M (stride rs j) (radix rs j) c i q
   unfolding read twiddledIn floats houseFloats
   read-housed j M c i zero = refl
   read-housed zero M c i (suc q) = refl
   read-housed (suc j) M c i (suc q) = refl
 
-  pub stage-housed : (j : ℕ) (xs : List Complex) → stage (floats (turning rs)) h rs j xs ≡ stage houseFloats h rs j xs
+  pub stage-housed : (j : ℕ) (xs : List Complex) → stage plain (floats (turning rs)) h rs j xs ≡ stage plain houseFloats h rs j xs
   unfolding stage stageBy output plain floats houseFloats
   stage-housed j xs =
       tabulate-same h 0 _ _ (λ k l.
-      total-housed (turning rs) (radix rs j) _ _ (placeOf (stride rs j) (radix rs j) (0 + k)) (radix rs j - 1) (read-housed j (h / radix rs j) _ (iteration (stride rs j) (radix rs j) (0 + k))))
+      total-same (floats (turning rs)) houseFloats (λ u w. refl) (radix rs j) _ _ (placeOf (stride rs j) (radix rs j) (0 + k)) (radix rs j - 1)
+      (λ q lq. (read-housed j (h / radix rs j) _ (iteration (stride rs j) (radix rs j) (0 + k)) q, λ z. refl)))
 
-  pub run-housed : (j : ℕ) (xs : List Complex) → run (floats (turning rs)) h rs j xs ≡ run houseFloats h rs j xs
+  pub run-housed : (j : ℕ) (xs : List Complex) → run plain (floats (turning rs)) h rs j xs ≡ run plain houseFloats h rs j xs
   unfolding run
   run-housed zero xs = refl
-  run-housed (suc j) xs = stage-housed j (run (floats (turning rs)) h rs j xs) ∙ ap (stage houseFloats h rs j) (run-housed j xs)
+  run-housed (suc j) xs = stage-housed j (run plain (floats (turning rs)) h rs j xs) ∙ ap (stage plain houseFloats h rs j) (run-housed j xs)
 
 -- ---- a plan
 
@@ -82,17 +77,17 @@ module _ (p : Record) (e : isPlanned p ≡ true) where
   M j = p .half / radix (inUse p) j
 
   pub plan-agree : (lent lent′ : ℕ → ℕ → ℕ → Complex) (j : ℕ) → j < p .count → (1 ≤ j → Agree (M j) (radix (inUse p) j) (lent j) (lent′ j)) → (xs : List Complex)
-      → stage (floats lent) (p .half) (inUse p) j xs ≡ stage (floats lent′) (p .half) (inUse p) j xs
+      → stage plain (floats lent) (p .half) (inUse p) j xs ≡ stage plain (floats lent′) (p .half) (inUse p) j xs
   unfolding stage
   plan-agree lent lent′ j l agree xs =
       stage-agree lent lent′ j (p .half) (product (drop (suc j) (inUse p))) (stride (inUse p) j) (radix (inUse p) j) (use-parts p e j l) (use-stride-some p e j l) (use-radix-some p e j l) agree xs
 
   pub run-agree : (lent lent′ : ℕ → ℕ → ℕ → Complex) → AgreeAll p lent lent′ → (xs : List Complex) (j : ℕ) → j ≤ p .count
-      → run (floats lent) (p .half) (inUse p) j xs ≡ run (floats lent′) (p .half) (inUse p) j xs
+      → run plain (floats lent) (p .half) (inUse p) j xs ≡ run plain (floats lent′) (p .half) (inUse p) j xs
   unfolding run
   run-agree lent lent′ agree xs zero l = refl
   run-agree lent lent′ agree xs (suc j) l =
-      plan-agree lent lent′ j l (λ later. agree j later l) _ ∙ ap (stage (floats lent′) (p .half) (inUse p) j) (run-agree lent lent′ agree xs j (le-of-lt l))
+      plan-agree lent lent′ j l (λ later. agree j later l) _ ∙ ap (stage plain (floats lent′) (p .half) (inUse p) j) (run-agree lent lent′ agree xs j (le-of-lt l))
 
   -- ---- the twiddles of one stage among those of all
 
@@ -116,7 +111,7 @@ module _ (p : Record) (e : isPlanned p ≡ true) where
         own-cell j (place (M j) r W i q) (rw (← own-count j later l) (place-lt (M j) r W i q width li first last))
 
     -- a stage of a run is the schedule's, with the lent twiddles
-    pub stage-lent : (j : ℕ) → j < p .count → (xs : List Float) → stageIn p W tw j xs ≡ flat (stage (floats (lentTo p W tw)) (p .half) (inUse p) j (paired xs))
+    pub stage-lent : (j : ℕ) → j < p .count → (xs : List Float) → stageIn p W tw j xs ≡ flat (stage plain (floats (lentTo p W tw)) (p .half) (inUse p) j (paired xs))
     unfolding stageOf
     stage-lent j l xs = ap flat (plan-agree (λ k. lentAt (M j) (radix (inUse p) j) W (ownOf p tw j)) (lentTo p W tw) j l (λ later. own-lent j later l) (paired xs))
 
@@ -126,22 +121,22 @@ module _ (p : Record) (e : isPlanned p ≡ true) where
     flatTwo b = (flat (b .0), flat (b .1))
 
     flat-across : (j : ℕ) → j < p .count → (t : Bool) (b : Two Complex)
-        → across t (stageIn p W tw j) (flatTwo b) ≡ flatTwo (across t (stage (floats (lentTo p W tw)) (p .half) (inUse p) j) b)
+        → across t (stageIn p W tw j) (flatTwo b) ≡ flatTwo (across t (stage plain (floats (lentTo p W tw)) (p .half) (inUse p) j) b)
     flat-across j l t b = go t
       where
-        made : (zs : List Complex) → stageIn p W tw j (flat zs) ≡ flat (stage (floats (lentTo p W tw)) (p .half) (inUse p) j zs)
-        made zs = stage-lent j l (flat zs) ∙ ap (λ (us : List Complex). flat (stage (floats (lentTo p W tw)) (p .half) (inUse p) j us)) (paired-flat zs)
+        made : (zs : List Complex) → stageIn p W tw j (flat zs) ≡ flat (stage plain (floats (lentTo p W tw)) (p .half) (inUse p) j zs)
+        made zs = stage-lent j l (flat zs) ∙ ap (λ (us : List Complex). flat (stage plain (floats (lentTo p W tw)) (p .half) (inUse p) j us)) (paired-flat zs)
 
-        go : (t : Bool) → across t (stageIn p W tw j) (flatTwo b) ≡ flatTwo (across t (stage (floats (lentTo p W tw)) (p .half) (inUse p) j) b)
+        go : (t : Bool) → across t (stageIn p W tw j) (flatTwo b) ≡ flatTwo (across t (stage plain (floats (lentTo p W tw)) (p .half) (inUse p) j) b)
         go true = ap (λ (ys : List Float). (flat (b .0), ys)) (made (b .0))
         go false = ap (λ (ys : List Float). (ys, flat (b .1))) (made (b .1))
 
     flat-alternated : (b : Two Complex) (k : ℕ) → k ≤ p .count
-        → alternated (stageIn p W tw) k (flatTwo b) ≡ flatTwo (alternated (stage (floats (lentTo p W tw)) (p .half) (inUse p)) k b)
+        → alternated (stageIn p W tw) k (flatTwo b) ≡ flatTwo (alternated (stage plain (floats (lentTo p W tw)) (p .half) (inUse p)) k b)
     unfolding alternated
     flat-alternated b zero l = refl
     flat-alternated b (suc k) l =
-        ap (across (eqb (k % 2) 0) (stageIn p W tw k)) (flat-alternated b k (le-of-lt l)) ∙ flat-across k l (eqb (k % 2) 0) (alternated (stage (floats (lentTo p W tw)) (p .half) (inUse p)) k b)
+        ap (across (eqb (k % 2) 0) (stageIn p W tw k)) (flat-alternated b k (le-of-lt l)) ∙ flat-across k l (eqb (k % 2) 0) (alternated (stage plain (floats (lentTo p W tw)) (p .half) (inUse p)) k b)
 
     flat-source : (t : Bool) (b : Two Complex) → sourceBy t (flatTwo b) ≡ flat (sourceBy t b)
     flat-source true b = refl
@@ -149,7 +144,7 @@ module _ (p : Record) (e : isPlanned p ≡ true) where
 
     -- the result of a run is what the schedule's last stage makes, with the lent twiddles
     pub run-lent : (xs ys : List Float) → length xs ≡ 2 * p .half → length ys ≡ 2 * p .half
-        → heldIn (resultIn (p .count)) (runOf p W tw (xs, ys)) ≡ flat (run (floats (lentTo p W tw)) (p .half) (inUse p) (p .count) (paired xs))
+        → heldIn (resultIn (p .count)) (runOf p W tw (xs, ys)) ≡ flat (run plain (floats (lentTo p W tw)) (p .half) (inUse p) (p .count) (paired xs))
     unfolding driven resultIn
     run-lent xs ys lx ly =
         let b : Two Complex = (paired xs, paired ys) in
@@ -158,5 +153,5 @@ module _ (p : Record) (e : isPlanned p ≡ true) where
         held (eqb (p .count) 1) u (alternated (stageIn p W tw) (p .count) (xs, ys)) (λ t. ap (λ (n : ℕ). eqb (n % 2) 0) (eqb-true (p .count) 1 t))
         ∙ ap (λ (c : Two Float). sourceBy u (alternated (stageIn p W tw) (p .count) c)) same
         ∙ ap (sourceBy u) (flat-alternated b (p .count) (omega arith))
-        ∙ flat-source u (alternated (stage (floats (lentTo p W tw)) (p .half) (inUse p)) (p .count) b)
-        ∙ ap flat (source-run (floats (lentTo p W tw)) (p .half) (inUse p) b (p .count))
+        ∙ flat-source u (alternated (stage plain (floats (lentTo p W tw)) (p .half) (inUse p)) (p .count) b)
+        ∙ ap flat (source-run plain (floats (lentTo p W tw)) (p .half) (inUse p) b (p .count))

@@ -17,7 +17,7 @@ use Rattle.counts.specs.Counts.{radix, resultIn}
 use Rattle.plan.specs.declared.Record.{Record}
 use Rattle.schedule.specs.Buffers.{heldIn}
 use Rattle.schedule.specs.Plans.{inUse}
-use Rattle.schedule.specs.Stage.{stage, run}
+use Rattle.schedule.specs.Stage.{stage, run, plain}
 use Rattle.twiddle.specs.Calls.{isWidth, Slices, Fills}
 use Rattle.twiddle.specs.declared.inner.ends.Direction.{Direction}
 use Rattle.twiddle.proofs.Theorems.{filled-twiddle}
@@ -62,7 +62,7 @@ any-width p j W W′ xs out out′ tw tw′ r r′ ys ys′ s s′ e wide room s
 -- a call that is accepted makes what the schedule does with the house table's turns throughout
 pub turned-call : (p : Record) (j W : ℕ) (xs out tw : List Float) (r : Verdict) (ys : List Float) → Stages p j W xs out tw r ys → r ≡ Accepted
     → Agree (p .half / radix (inUse p) j) (radix (inUse p) j) (lentAt (p .half / radix (inUse p) j) (radix (inUse p) j) W tw) (turning (inUse p) j)
-    → ys ≡ flat (stage houseFloats (p .half) (inUse p) j (paired xs))
+    → ys ≡ flat (stage plain houseFloats (p .half) (inUse p) j (paired xs))
 unfolding stageOf
 turned-call p j W xs out tw r ys s e agree =
     let t = stage-told p j W xs out tw r ys s e in
@@ -85,20 +85,20 @@ module _ (d : Direction) (p : Record) (W : ℕ) (before : Slices) (r : Verdict) 
       ap₂ cx (at .first) (at .second)
 
   -- so a stage is the schedule's with the house table's turns throughout
-  pub filled-stage : (j : ℕ) → j < p .count → (xs : List Float) → stageIn p W (after .0) j xs ≡ flat (stage houseFloats (p .half) (inUse p) j (paired xs))
+  pub filled-stage : (j : ℕ) → j < p .count → (xs : List Float) → stageIn p W (after .0) j xs ≡ flat (stage plain houseFloats (p .half) (inUse p) j (paired xs))
   filled-stage j l xs =
       stage-lent p (tells .planned) W width (after .0) j l xs
       ∙ ap flat (plan-agree p (tells .planned) (lentTo p W (after .0)) (turning (inUse p)) j l (λ later. filled-turns j later l) (paired xs) ∙ stage-housed (p .half) (inUse p) j (paired xs))
 
   -- what an accepted call of a stage leaves when it is lent its own of them
   pub filled-call : (j : ℕ) (xs out : List Float) (v : Verdict) (ys : List Float) → Stages p j W xs out (ownOf p (after .0) j) v ys → v ≡ Accepted
-      → ys ≡ flat (stage houseFloats (p .half) (inUse p) j (paired xs))
+      → ys ≡ flat (stage plain houseFloats (p .half) (inUse p) j (paired xs))
   filled-call j xs out v ys s e =
       stage-left p j W xs out (ownOf p (after .0) j) v ys s e ∙ filled-stage j (stage-told p j W xs out (ownOf p (after .0) j) v ys s e .known) xs
 
   -- and a run's result is the schedule's run
   pub filled-run : (xs ys : List Float) → length xs ≡ 2 * p .half → length ys ≡ 2 * p .half
-      → heldIn (resultIn (p .count)) (runOf p W (after .0) (xs, ys)) ≡ flat (run houseFloats (p .half) (inUse p) (p .count) (paired xs))
+      → heldIn (resultIn (p .count)) (runOf p W (after .0) (xs, ys)) ≡ flat (run plain houseFloats (p .half) (inUse p) (p .count) (paired xs))
   filled-run xs ys lx ly =
       run-lent p (tells .planned) W width (after .0) xs ys lx ly
       ∙ ap flat (run-agree p (tells .planned) (lentTo p W (after .0)) (turning (inUse p)) filled-turns (paired xs) (p .count) (omega arith) ∙ run-housed (p .half) (inUse p) (p .count) (paired xs))

@@ -16,21 +16,12 @@ Inv-loop dst₀ at r o p₀ dst p = (p ≤ r) × Wrote (λ n. getD o n blank) at
 abbrev μ-loop : tie.MeasureT-loop
 μ-loop dst₀ at r o p₀ dst p = r - p
 
-loop-holds : tie.Need-loop-holds Inv-loop μ-loop
-loop-holds c = (omega arith, wrote-none _ _ _)
-
-put-requires : tie.Need-put-requires Inv-loop μ-loop
-put-requires c κs = omega (arith, c .before .before .before .loop .inv .1 .size)
-
 loop-again : tie.Need-loop-again Inv-loop μ-loop
 loop-again c =
     let l = c .before .before .before .before .before .before .loop in
     let put = c .before .before .put in
     let room : 2 * (c .before .before .before .before .before .before .before .before .args .at + l .p) + 1 < length (c .before .before .before .before .before .before .before .before .args .dst .now) = omega arith in
     (omega arith, wrote-step _ _ _ (l .p) (l .dst) (put .last .0) _ room (l .inv .1) refl (put .ensures))
-
-same-length : tie.Need-same-length Inv-loop μ-loop
-same-length c = c .before .loop .inv .1 .size
 
 returns : tie.Need-returns Inv-loop μ-loop
 returns c =
@@ -40,5 +31,6 @@ returns c =
 pub spread-spec : {M : Type 1} → statement M
 spread-spec =
     tie.close
-    (tie.spec Inv-loop μ-loop loop-holds (λ c. search needs) (λ c. search needs) (λ c. search needs) put-requires (λ c. search needs)
-    (λ c. search needs) loop-again same-length returns)
+    (tie.spec Inv-loop μ-loop (λ c. (omega arith, wrote-none _ _ _)) (λ c. search needs) (λ c. search needs) (λ c. search needs)
+    (λ c κs. omega (arith, c .before .before .before .loop .inv .1 .size))
+    (λ c. search needs) (λ c. search needs) loop-again (λ c. c .before .loop .inv .1 .size) returns)

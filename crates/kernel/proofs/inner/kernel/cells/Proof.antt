@@ -6,10 +6,11 @@ use native.Mathlib.Omega.{arith}
 use borrow.Author.Needs.{needs}
 use lib.ListN.{getD, length, length-set}
 use mathlib.Core.Bool.{false}
+use Rattle.schedule.proofs.Fill.{set-more}
 use Rattle.floats.specs.declared.complex.Complex.{Complex}
 use Rattle.floats.specs.Complexes.{blank, cell}
 use Rattle.kernel.specs.Parts.{readOf}
-use Rattle.kernel.proofs.Kernel.{cell-room, set-more, read-plain, read-times}
+use Rattle.kernel.proofs.Kernel.{cell-room, read-plain, read-times}
 use Rattle.kernel.proofs.inner.kernel.cells.Statement.{statement}
 use Rattle.kernel.proofs.inner.kernel.cells.Tie as tie
 
@@ -46,9 +47,6 @@ mul-get-3 c = omega (arith, c .before .before .before .before .before .before .b
 add-get-2 : tie.Need-add-get-2 Inv-loop μ-loop
 add-get-2 c = omega (arith, c .before .before .before .before .before .before .before .pre .2 (c .if1 .left) (c .before .before .before .loop .q) (omega arith) (omega arith))
 
-get-requires-3 : tie.Need-get-requires-3 Inv-loop μ-loop
-get-requires-3 c κs = c .before .before .before .before .before .before .before .pre .2 (c .if1 .left) (c .before .before .before .loop .q) (omega arith) (omega arith)
-
 loop-again : tie.Need-loop-again Inv-loop μ-loop
 loop-again c =
     let l = c .before .before .before .loop in
@@ -72,4 +70,5 @@ pub cells-spec : {M : Type 1} → statement M
 cells-spec =
     tie.close
     (tie.spec Inv-loop μ-loop get-requires loop-holds mul-get add-get get-requires-2 mul-get-2 (λ c. search needs) mul-get-3 add-get-2
-    get-requires-3 (λ c κs. search needs) (λ c. search needs) (λ c. search needs) (λ c. search needs) (λ c. search needs) loop-again returns)
+    (λ c κs. c .before .before .before .before .before .before .before .pre .2 (c .if1 .left) (c .before .before .before .loop .q) (omega arith) (omega arith))
+    (λ c κs. search needs) (λ c. search needs) (λ c. search needs) (λ c. search needs) (λ c. search needs) loop-again returns)

@@ -15,21 +15,12 @@ Inv-loop re im k dst₀ at n t₀ dst t = (t ≤ n) × Wrote (λ u. lane re im (
 abbrev μ-loop : tie.MeasureT-loop
 μ-loop re im k dst₀ at n t₀ dst t = n - t
 
-loop-holds : tie.Need-loop-holds Inv-loop μ-loop
-loop-holds c = (omega arith, wrote-none _ _ _)
-
-put-requires : tie.Need-put-requires Inv-loop μ-loop
-put-requires c κs = omega (arith, c .before .before .before .loop .inv .1 .size)
-
 loop-again : tie.Need-loop-again Inv-loop μ-loop
 loop-again c =
     let l = c .before .before .before .before .before .before .loop in
     let put = c .before .before .put in
     let room : 2 * (c .before .before .before .before .before .before .before .before .before .before .args .at + l .t) + 1 < length (c .before .before .before .before .before .before .before .before .before .before .args .dst .now) = omega arith in
     (omega arith, wrote-step _ _ _ (l .t) (l .dst) (put .last .0) _ room (l .inv .1) (c .before .before .before .before .held .ensures) (put .ensures))
-
-same-length : tie.Need-same-length Inv-loop μ-loop
-same-length c = c .before .loop .inv .1 .size
 
 returns : tie.Need-returns Inv-loop μ-loop
 returns c =
@@ -39,5 +30,6 @@ returns c =
 pub row-spec : {M : Type 1} → statement M
 row-spec =
     tie.close
-    (tie.spec Inv-loop μ-loop loop-holds (λ c. search needs) (λ c κs. search needs) (λ c. search needs) put-requires (λ c. search needs)
-    (λ c. search needs) loop-again same-length returns)
+    (tie.spec Inv-loop μ-loop (λ c. (omega arith, wrote-none _ _ _)) (λ c. search needs) (λ c κs. search needs) (λ c. search needs)
+    (λ c κs. omega (arith, c .before .before .before .loop .inv .1 .size))
+    (λ c. search needs) (λ c. search needs) loop-again (λ c. c .before .loop .inv .1 .size) returns)

@@ -4,26 +4,24 @@ use Prim.Native.Nat.{_+_, _-_, _%_, _≤_}
 use native.Mathlib.Omega.{arith}
 use borrow.Author.Needs.{needs}
 use lib.ListN.{getD}
+use Rattle.schedule.specs.Parts.{Every}
 use Rattle.floats.specs.Complexes.{blank}
-use Rattle.kernel.specs.Parts.{kernelOf}
-use Rattle.kernel.proofs.Writes.{Every, every-none, every-step, every-end, saved-both}
+use Rattle.kernel.specs.Parts.{kernelOf, Taken}
+use Rattle.kernel.proofs.Writes.{every-none, every-step, every-end, saved-both}
 use Rattle.kernel.proofs.inner.lanes.save.Statement.{statement}
 use Rattle.kernel.proofs.inner.lanes.save.Tie as tie
 
 abbrev Inv-loop : tie.InvT-loop
-Inv-loop c re₀ im₀ j r p₀ re im p = (p ≤ r + 1) × (p % 2 ≡ 0) × Every (kernelOf r (λ n. getD c n blank)) 0 j p re₀ im₀ re im
+Inv-loop c re₀ im₀ j r p₀ re im p = (p ≤ r + 1) × (p % 2 ≡ 0) × Taken (Every 0 p) (kernelOf r (λ n. getD c n blank)) j re₀ im₀ re im
 
 abbrev μ-loop : tie.MeasureT-loop
 μ-loop c re₀ im₀ j r p₀ re im p = r + 1 - p
 
 abbrev Inv-loop2 : tie.InvT-loop2
-Inv-loop2 c re₀ im₀ j r p q₀ re im q = (q ≤ r + 1) × (q % 2 ≡ 1) × Every (kernelOf r (λ n. getD c n blank)) 1 j q re₀ im₀ re im
+Inv-loop2 c re₀ im₀ j r p q₀ re im q = (q ≤ r + 1) × (q % 2 ≡ 1) × Taken (Every 1 q) (kernelOf r (λ n. getD c n blank)) j re₀ im₀ re im
 
 abbrev μ-loop2 : tie.MeasureT-loop2
 μ-loop2 c re₀ im₀ j r p q₀ re im q = r + 1 - q
-
-loop-holds : tie.Need-loop-holds Inv-loop μ-loop Inv-loop2 μ-loop2
-loop-holds c = (omega arith, refl, every-none _ 0 _ _ _ (omega arith))
 
 loop-again : tie.Need-loop-again Inv-loop μ-loop Inv-loop2 μ-loop2
 loop-again c =
@@ -33,9 +31,6 @@ loop-again c =
       every-step _ 0 _ _ _ (l .p) (l .re) (l .im) _ (l .inv .1) (omega (arith, l .inv .2 .size-re)) (omega (arith, l .inv .2 .size-im)) (l .inv .2) (c .output .ensures),
     )
 
-loop2-holds : tie.Need-loop2-holds Inv-loop μ-loop Inv-loop2 μ-loop2
-loop2-holds c = (omega arith, refl, every-none _ 1 _ _ _ (omega arith))
-
 loop2-again : tie.Need-loop2-again Inv-loop μ-loop Inv-loop2 μ-loop2
 loop2-again c =
     let l = c .before .before .loop2 in (
@@ -43,12 +38,6 @@ loop2-again c =
       omega (arith, l .inv .1),
       every-step _ 1 _ _ _ (l .q) (l .re) (l .im) _ (l .inv .1) (omega (arith, l .inv .2 .size-re)) (omega (arith, l .inv .2 .size-im)) (l .inv .2) (c .output2 .ensures),
     )
-
-same-length : tie.Need-same-length Inv-loop μ-loop Inv-loop2 μ-loop2
-same-length c = c .before .loop2 .inv .2 .size-re ∙ c .before .before .before .loop .inv .2 .size-re
-
-same-length-2 : tie.Need-same-length-2 Inv-loop μ-loop Inv-loop2 μ-loop2
-same-length-2 c = c .before .loop2 .inv .2 .size-im ∙ c .before .before .before .loop .inv .2 .size-im
 
 returns : tie.Need-returns Inv-loop μ-loop Inv-loop2 μ-loop2
 returns c =
@@ -61,7 +50,13 @@ returns c =
 pub save-spec : {M : Type 1} → statement M
 save-spec =
     tie.close
-    (tie.spec Inv-loop μ-loop Inv-loop2 μ-loop2 loop-holds (λ c κs. search needs) (λ c. search needs) (λ c. search needs)
-    (λ c. search needs) (λ c. search needs) (λ c. search needs) (λ c. search needs) (λ c. search needs) (λ c. search needs) loop-again
-    loop2-holds (λ c κs. search needs) (λ c. search needs) (λ c. search needs) (λ c. search needs) (λ c. search needs) (λ c. search needs)
-    (λ c. search needs) (λ c. search needs) (λ c. search needs) loop2-again same-length same-length-2 returns)
+    (tie.spec Inv-loop μ-loop Inv-loop2 μ-loop2
+    (λ c. (omega arith, refl, every-none _ 0 _ _ _ (omega arith)))
+    (λ c κs. search needs) (λ c. search needs) (λ c. search needs) (λ c. search needs) (λ c. search needs) (λ c. search needs) (λ c. search needs)
+    (λ c. search needs) (λ c. search needs) loop-again
+    (λ c. (omega arith, refl, every-none _ 1 _ _ _ (omega arith)))
+    (λ c κs. search needs) (λ c. search needs) (λ c. search needs) (λ c. search needs) (λ c. search needs) (λ c. search needs) (λ c. search needs)
+    (λ c. search needs) (λ c. search needs) loop2-again
+    (λ c. c .before .loop2 .inv .2 .size-re ∙ c .before .before .before .loop .inv .2 .size-re)
+    (λ c. c .before .loop2 .inv .2 .size-im ∙ c .before .before .before .loop .inv .2 .size-im)
+    returns)

@@ -13,9 +13,6 @@ Inv-loop re im dst₀ i m len s r even at₀ j₀ dst at j = Storing even i len 
 abbrev μ-loop : tie.MeasureT-loop
 μ-loop re im dst₀ i m len s r even at₀ j₀ dst at j = len - j
 
-loop-holds : tie.Need-loop-holds Inv-loop μ-loop
-loop-holds c = let p = c .before .before .before .pre in storing-none (p .1) (p .2)
-
 sub-batch : tie.Need-sub-batch Inv-loop μ-loop
 sub-batch c =
     let p = c .before .before .before .before .before .before .pre in
@@ -53,9 +50,6 @@ onward-requires c κs =
     let t = c .before .before .before .before .before .before .before .loop-test .taken in
     (storing-within (p .0) (p .1) w t (c .before .before .before .before .before .batch .ensures), omega (arith, storing-room (p .0) (p .1) w t .1))
 
-add-j : tie.Need-add-j Inv-loop μ-loop
-add-j c = omega (arith, c .before .before .before .before .before .before .batch .ensures .3)
-
 loop-less : tie.Need-loop-less Inv-loop μ-loop
 loop-less c = omega (arith, c .before .before .before .before .before .before .batch .ensures .1, c .before .before .before .before .before .before .batch .ensures .3)
 
@@ -67,9 +61,6 @@ loop-again c =
     let rows = c .before .before .before .rows in
     storing-next (p .0) (p .1) w t (c .before .before .before .before .before .before .batch .ensures) (rows .ensures) (rows .kept .1 .1 .1 .0) (c .onward .ensures)
 
-same-length : tie.Need-same-length Inv-loop μ-loop
-same-length c = c .before .loop .inv .size
-
 returns : tie.Need-returns Inv-loop μ-loop
 returns c =
     let p = c .before .before .before .before .before .pre in
@@ -78,5 +69,8 @@ returns c =
 pub store-spec : {M : Type 1} → statement M
 store-spec =
     tie.close
-    (tie.spec Inv-loop μ-loop loop-holds sub-batch (λ c. search needs) batch-requires add-rows (λ c. search needs) rows-requires
-    onward-requires add-j loop-less loop-again same-length returns)
+    (tie.spec Inv-loop μ-loop
+    (λ c. let p = c .before .before .before .pre in storing-none (p .1) (p .2))
+    sub-batch (λ c. search needs) batch-requires add-rows (λ c. search needs) rows-requires onward-requires
+    (λ c. omega (arith, c .before .before .before .before .before .before .batch .ensures .3))
+    loop-less loop-again (λ c. c .before .loop .inv .size) returns)

@@ -17,12 +17,6 @@ Inv-loop tw t₀ i m len r w here j₀ t j = (j ≤ len) × (length t ≡ length
 abbrev μ-loop : tie.MeasureT-loop
 μ-loop tw t₀ i m len r w here j₀ t j = len - j
 
-returns : tie.Need-returns Inv-loop μ-loop
-returns c = λ e. absurd (true≢false (sym (c .if1 .taken) ∙ e))
-
-loop-holds : tie.Need-loop-holds Inv-loop μ-loop
-loop-holds c = (omega arith, refl, λ j q lj l lq. absurd (omega arith))
-
 fetch-one-requires : tie.Need-fetch-one-requires Inv-loop μ-loop
 fetch-one-requires c κs = (rw (c .before .before .loop .inv .1) (c .before .before .before .before .before .before .pre .0), c .before .before .before .before .before .before .pre .1 (c .before .before .before .if1 .left), omega arith, omega arith)
 
@@ -33,14 +27,11 @@ loop-again c =
     let one = c .before .before .fetch-one in
     (omega arith, one .kept .1 .0 ∙ l .inv .1, fetched-step (a .i) (l .j) (a .r) (lentAt (a .m) (a .r) (a .w) (a .tw .now)) (l .t) _ (one .ensures) (l .inv .2))
 
-same-length : tie.Need-same-length Inv-loop μ-loop
-same-length c = c .before .loop .inv .1
-
-returns-2 : tie.Need-returns-2 Inv-loop μ-loop
-returns-2 c = λ e j q lj l lq. c .before .loop .inv .2 j q (omega arith) l lq
-
 pub fetch-spec : {M : Type 1} → statement M
 fetch-spec =
     tie.close
-    (tie.spec Inv-loop μ-loop returns loop-holds (λ c. search needs) fetch-one-requires (λ c. search needs) (λ c. search needs) loop-again
-    same-length returns-2)
+    (tie.spec Inv-loop μ-loop
+    (λ c. λ e. absurd (true≢false (sym (c .if1 .taken) ∙ e)))
+    (λ c. (omega arith, refl, λ j q lj l lq. absurd (omega arith)))
+    (λ c. search needs) fetch-one-requires (λ c. search needs) (λ c. search needs) loop-again (λ c. c .before .loop .inv .1)
+    (λ c. λ e j q lj l lq. c .before .loop .inv .2 j q (omega arith) l lq))

@@ -22,15 +22,6 @@ start s =
     let a : s .args .i - s .args .i % 2 ≤ s .args .i = omega arith in
     omega (arith, from s, mul-le-mul-right (s .args .r - 1) a)
 
-mul-gather : tie.Need-mul-gather
-mul-gather c = omega (arith, to (c .before .before .before .before))
-
-mul-gather-2 : tie.Need-mul-gather-2
-mul-gather-2 c = omega (arith, start (c .before .before .before .before))
-
-add-gather : tie.Need-add-gather
-add-gather c = omega (arith, start (c .before .before .before .before))
-
 gather-requires : tie.Need-gather-requires
 gather-requires c κs =
     let s = c .before .before .before .before in
@@ -40,12 +31,6 @@ gather-requires c κs =
           let below = place-lt (a .m) (a .r) (a .w) (a .i) (u + 1) (omega (arith, s .pre .1)) (s .pre .2) (omega arith) (omega arith) in
           omega (arith, below, place-in (a .m) (a .r) (a .w) (a .i) u (s .pre .1) (c .before .if1 .taken), s .pre .0 .lent),
     )
-
-mul-gather-3 : tie.Need-mul-gather-3
-mul-gather-3 c = omega (arith, to (c .before .before .before .before))
-
-mul-gather-4 : tie.Need-mul-gather-4
-mul-gather-4 c = omega (arith, from (c .before .before .before .before))
 
 gather-requires-2 : tie.Need-gather-requires-2
 gather-requires-2 c κs =
@@ -74,5 +59,12 @@ returns-2 c =
 pub fetch-one-spec : {M : Type 1} → statement M
 fetch-one-spec =
     tie.close
-    (tie.spec (λ c. search needs) (λ c. search needs) (λ c. search needs) mul-gather (λ c. search needs) mul-gather-2 add-gather
-    gather-requires mul-gather-3 mul-gather-4 gather-requires-2 (λ c. search needs) returns (λ c. search needs) returns-2)
+    (tie.spec (λ c. search needs) (λ c. search needs) (λ c. search needs)
+    (λ c. omega (arith, to (c .before .before .before .before)))
+    (λ c. search needs)
+    (λ c. omega (arith, start (c .before .before .before .before)))
+    (λ c. omega (arith, start (c .before .before .before .before)))
+    gather-requires
+    (λ c. omega (arith, to (c .before .before .before .before)))
+    (λ c. omega (arith, from (c .before .before .before .before)))
+    gather-requires-2 (λ c. search needs) returns (λ c. search needs) returns-2)

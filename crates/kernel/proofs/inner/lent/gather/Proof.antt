@@ -16,33 +16,12 @@ Inv-loop tw t₀ at from n step u₀ t u = (u ≤ n) × Wrote (λ k. cell tw (fr
 abbrev μ-loop : tie.MeasureT-loop
 μ-loop tw t₀ at from n step u₀ t u = n - u
 
-loop-holds : tie.Need-loop-holds Inv-loop μ-loop
-loop-holds c = (omega arith, wrote-none _ _ _)
-
-mul-get : tie.Need-mul-get Inv-loop μ-loop
-mul-get c = omega (arith, c .before .before .before .before .pre .1 (c .before .loop .u) (omega arith))
-
-add-get : tie.Need-add-get Inv-loop μ-loop
-add-get c = omega (arith, c .before .before .before .before .pre .1 (c .before .loop .u) (omega arith))
-
-get-requires : tie.Need-get-requires Inv-loop μ-loop
-get-requires c κs = c .before .before .before .before .pre .1 (c .before .loop .u) (omega arith)
-
-add-put : tie.Need-add-put Inv-loop μ-loop
-add-put c = omega arith
-
-put-requires : tie.Need-put-requires Inv-loop μ-loop
-put-requires c κs = omega (arith, c .before .before .before .loop .inv .1 .size)
-
 loop-again : tie.Need-loop-again Inv-loop μ-loop
 loop-again c =
     let l = c .before .before .before .before .before .before .loop in
     let put = c .before .before .put in
     let room : 2 * (c .before .before .before .before .before .before .before .before .before .args .at + l .u) + 1 < length (c .before .before .before .before .before .before .before .before .before .args .t .now) = omega arith in
     (omega arith, wrote-step _ _ _ (l .u) (l .t) (put .last .0) _ room (l .inv .1) (c .before .before .before .before .get .ensures) (put .ensures))
-
-same-length : tie.Need-same-length Inv-loop μ-loop
-same-length c = c .before .loop .inv .1 .size
 
 returns : tie.Need-returns Inv-loop μ-loop
 returns c =
@@ -52,5 +31,10 @@ returns c =
 pub gather-spec : {M : Type 1} → statement M
 gather-spec =
     tie.close
-    (tie.spec Inv-loop μ-loop loop-holds mul-get add-get get-requires add-put put-requires (λ c. search needs) (λ c. search needs)
-    loop-again same-length returns)
+    (tie.spec Inv-loop μ-loop (λ c. (omega arith, wrote-none _ _ _))
+    (λ c. omega (arith, c .before .before .before .before .pre .1 (c .before .loop .u) (omega arith)))
+    (λ c. omega (arith, c .before .before .before .before .pre .1 (c .before .loop .u) (omega arith)))
+    (λ c κs. c .before .before .before .before .pre .1 (c .before .loop .u) (omega arith))
+    (λ c. omega arith)
+    (λ c κs. omega (arith, c .before .before .before .loop .inv .1 .size))
+    (λ c. search needs) (λ c. search needs) loop-again (λ c. c .before .loop .inv .1 .size) returns)

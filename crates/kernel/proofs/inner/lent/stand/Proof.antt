@@ -7,11 +7,8 @@ use Rattle.kernel.proofs.Widths.{two-left}
 use Rattle.kernel.proofs.inner.lent.stand.Statement.{statement}
 use Rattle.kernel.proofs.inner.lent.stand.Tie as tie
 
-returns : tie.Need-returns
-returns c = (λ e. inl (c .if1 .taken), λ e. absurd (true≢false (sym (eq-eqb _ 1 (c .if1 .taken)) ∙ e)))
-
-returns-2 : tie.Need-returns-2
-returns-2 c = (λ e. inr (eqb-true _ 4 e), two-left _ (c .before .pre) (c .if1 .left))
-
 pub stand-spec : {M : Type 1} → statement M
-stand-spec = tie.close (tie.spec returns returns-2)
+stand-spec = tie.close
+    (tie.spec
+    (λ c. (λ e. inl (c .if1 .taken), λ e. absurd (true≢false (sym (eq-eqb _ 1 (c .if1 .taken)) ∙ e))))
+    (λ c. (λ e. inr (eqb-true _ 4 e), two-left _ (c .before .pre) (c .if1 .left))))

@@ -27,9 +27,6 @@ loop-holds c =
     let p = c .before .before .before .pre in
     (omega arith, refl, refl, refl, refl, refl, refl, placed-first (a .even) (a .s) (a .r) (a .s) (p .4) (p .2 .stride), λ i p li lp. absurd (omega arith))
 
-sub-from : tie.Need-sub-from Inv-loop μ-loop
-sub-from c = omega (arith, c .before .before .before .before .before .before .pre .0 .some)
-
 mul-from : tie.Need-mul-from Inv-loop μ-loop
 mul-from c =
     let a = c .before .before .before .before .before .before .args in
@@ -59,18 +56,6 @@ part-lanes4-start c =
     let a = c .before .before .before .before .before .before .args in
     let l : c .before .before .loop .i ≤ a .m = omega (arith, c .before .before .before .before .before .before .pre .5) in
     omega (arith, past-room (c .before .before .loop .i) (a .m) (a .r) _ l (c .before .before .before .before .before .before .pre .1))
-
-slice-aggregate-lanes4 : tie.Need-slice-aggregate-lanes4 Inv-loop μ-loop
-slice-aggregate-lanes4 c = sym (c .before .before .before .before .loop .inv .2)
-
-slice-aggregate-lanes4-2 : tie.Need-slice-aggregate-lanes4-2 Inv-loop μ-loop
-slice-aggregate-lanes4-2 c = sym (c .before .before .before .before .before .loop .inv .3)
-
-slice-aggregate-lanes4-3 : tie.Need-slice-aggregate-lanes4-3 Inv-loop μ-loop
-slice-aggregate-lanes4-3 c = sym (c .before .before .before .before .before .before .loop .inv .4)
-
-slice-aggregate-lanes4-4 : tie.Need-slice-aggregate-lanes4-4 Inv-loop μ-loop
-slice-aggregate-lanes4-4 c = sym (c .before .before .before .before .before .before .before .loop .inv .5)
 
 lanes4-requires : tie.Need-lanes4-requires Inv-loop μ-loop
 lanes4-requires c κs =
@@ -144,9 +129,6 @@ loop-again c =
       store .ensures .1 v (picked (l .i) (n .result) (a .r) v (lanes .last .1 .1 .0) (lanes .last .1 .1 .1 .0) (lanes .last .1 .1 .1 .1 .0) (lanes .last .1 .1 .1 .1 .1 .0) _ _ (c .before .before .before .before .before .before .before .pick .ensures) (c .before .before .before .before .pick2 .ensures) held) (l .inv .8),
     )
 
-same-length : tie.Need-same-length Inv-loop μ-loop
-same-length c = c .before .loop .inv .1
-
 returns : tie.Need-returns Inv-loop μ-loop
 returns c =
     let a = c .before .before .before .before .before .args in
@@ -157,7 +139,12 @@ returns c =
 pub by-fours-spec : {M : Type 1} → statement M
 by-fours-spec =
     tie.close
-    (tie.spec Inv-loop μ-loop loop-holds (λ c. search needs) (λ c κs. search needs) sub-from mul-from mul-from-2 mul-lanes4 sub-lanes4
-    part-lanes4-start (λ c. search needs) slice-aggregate-lanes4 slice-aggregate-lanes4-2 slice-aggregate-lanes4-3 slice-aggregate-lanes4-4
-    lanes4-requires slice-aggregate-pick slice-aggregate-pick-2 (λ c κs. search needs) slice-aggregate-pick-3 slice-aggregate-pick-4
-    (λ c κs. search needs) store4-requires add-i loop-less loop-again same-length returns)
+    (tie.spec Inv-loop μ-loop loop-holds (λ c. search needs) (λ c κs. search needs)
+    (λ c. omega (arith, c .before .before .before .before .before .before .pre .0 .some))
+    mul-from mul-from-2 mul-lanes4 sub-lanes4 part-lanes4-start (λ c. search needs)
+    (λ c. sym (c .before .before .before .before .loop .inv .2))
+    (λ c. sym (c .before .before .before .before .before .loop .inv .3))
+    (λ c. sym (c .before .before .before .before .before .before .loop .inv .4))
+    (λ c. sym (c .before .before .before .before .before .before .before .loop .inv .5))
+    lanes4-requires slice-aggregate-pick slice-aggregate-pick-2 (λ c κs. search needs) slice-aggregate-pick-3 slice-aggregate-pick-4 (λ c κs. search needs)
+    store4-requires add-i loop-less loop-again (λ c. c .before .loop .inv .1) returns)

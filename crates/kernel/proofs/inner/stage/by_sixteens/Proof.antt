@@ -27,16 +27,10 @@ loop-holds c =
     let p = c .before .before .before .before .pre in
     (p .6, refl, refl, refl, refl, refl, refl, p .8, p .9, p .7, λ done. done)
 
-slice-aggregate-fetch : tie.Need-slice-aggregate-fetch Inv-loop μ-loop
-slice-aggregate-fetch c = sym (c .before .before .before .loop .inv .2)
-
 fetch-requires : tie.Need-fetch-requires Inv-loop μ-loop
 fetch-requires c κs =
     let p = c .before .before .before .before .before .before .before .before .pre in
     (rw (c .before .before .before .loop .inv .2) (p .1), c .before .before .before .before .stand .ensures .1, omega (arith, c .before .least .ensures .0), c .before .least .ensures .1)
-
-sub-from : tie.Need-sub-from Inv-loop μ-loop
-sub-from c = omega (arith, c .before .before .before .before .before .before .before .before .before .before .pre .0 .some)
 
 mul-from : tie.Need-mul-from Inv-loop μ-loop
 mul-from c =
@@ -48,26 +42,11 @@ mul-from-2 c =
     let s = c .before .before .before .before .before .before .before .before .before .before in
     omega (arith, small-past (s .args .m) (s .args .r) (c .before .before .before .before .before .loop .i) (s .pre .1 .small) (s .pre .0 .few) (c .before .before .before .before .loop-test .taken))
 
-slice-aggregate-lent : tie.Need-slice-aggregate-lent Inv-loop μ-loop
-slice-aggregate-lent c = sym (c .before .before .fetch .kept .1 .0 ∙ c .before .before .before .before .before .before .loop .inv .2)
-
 lent-requires : tie.Need-lent-requires Inv-loop μ-loop
 lent-requires c κs =
     let s = c .before .before .before .before .before .before .before .before .before .before .before in
     let l = c .before .before .before .before .before .before .loop in
     past-room (l .i) (s .args .m) (s .args .r) _ (l .inv .0) (s .pre .1 .lent)
-
-slice-aggregate-lanes : tie.Need-slice-aggregate-lanes Inv-loop μ-loop
-slice-aggregate-lanes c = sym (c .before .before .before .before .before .before .before .before .loop .inv .3)
-
-slice-aggregate-lanes-2 : tie.Need-slice-aggregate-lanes-2 Inv-loop μ-loop
-slice-aggregate-lanes-2 c = sym (c .before .before .before .before .before .before .before .before .before .loop .inv .4)
-
-slice-aggregate-lanes-3 : tie.Need-slice-aggregate-lanes-3 Inv-loop μ-loop
-slice-aggregate-lanes-3 c = sym (c .before .before .before .before .before .before .before .before .before .before .loop .inv .5)
-
-slice-aggregate-lanes-4 : tie.Need-slice-aggregate-lanes-4 Inv-loop μ-loop
-slice-aggregate-lanes-4 c = sym (c .before .before .before .before .before .before .before .before .before .before .before .loop .inv .6)
 
 lanes-requires : tie.Need-lanes-requires Inv-loop μ-loop
 lanes-requires c κs =
@@ -146,9 +125,6 @@ loop-again c =
       λ done. store .ensures .1 v (picked (l .i) (n .result) (a .r) v (lanes .last .1 .1 .0) (lanes .last .1 .1 .1 .0) (lanes .last .1 .1 .1 .1 .0) (lanes .last .1 .1 .1 .1 .1 .0) _ _ (c .before .before .before .before .before .before .before .pick .ensures) (c .before .before .before .before .pick2 .ensures) held) (l .inv .10 done),
     )
 
-same-length : tie.Need-same-length Inv-loop μ-loop
-same-length c = c .before .loop .inv .1
-
 returns : tie.Need-returns Inv-loop μ-loop
 returns c =
     λ done i p li lp. c .before .loop .inv .10 done i p (omega (arith, c .loop-test .left)) lp
@@ -156,7 +132,16 @@ returns c =
 pub by-sixteens-spec : {M : Type 1} → statement M
 by-sixteens-spec =
     tie.close
-    (tie.spec Inv-loop μ-loop (λ c κs. search needs) loop-holds (λ c. search needs) (λ c κs. search needs) slice-aggregate-fetch
-    fetch-requires sub-from mul-from mul-from-2 slice-aggregate-lent lent-requires slice-aggregate-lanes slice-aggregate-lanes-2
-    slice-aggregate-lanes-3 slice-aggregate-lanes-4 lanes-requires slice-aggregate-pick slice-aggregate-pick-2 (λ c κs. search needs)
-    slice-aggregate-pick-3 slice-aggregate-pick-4 (λ c κs. search needs) store-requires add-i loop-less loop-again same-length returns)
+    (tie.spec Inv-loop μ-loop (λ c κs. search needs) loop-holds (λ c. search needs) (λ c κs. search needs)
+    (λ c. sym (c .before .before .before .loop .inv .2))
+    fetch-requires
+    (λ c. omega (arith, c .before .before .before .before .before .before .before .before .before .before .pre .0 .some))
+    mul-from mul-from-2
+    (λ c. sym (c .before .before .fetch .kept .1 .0 ∙ c .before .before .before .before .before .before .loop .inv .2))
+    lent-requires
+    (λ c. sym (c .before .before .before .before .before .before .before .before .loop .inv .3))
+    (λ c. sym (c .before .before .before .before .before .before .before .before .before .loop .inv .4))
+    (λ c. sym (c .before .before .before .before .before .before .before .before .before .before .loop .inv .5))
+    (λ c. sym (c .before .before .before .before .before .before .before .before .before .before .before .loop .inv .6))
+    lanes-requires slice-aggregate-pick slice-aggregate-pick-2 (λ c κs. search needs) slice-aggregate-pick-3 slice-aggregate-pick-4 (λ c κs. search needs)
+    store-requires add-i loop-less loop-again (λ c. c .before .loop .inv .1) returns)

@@ -16,14 +16,8 @@ Inv-loop src tw dst₀ m r i₀ dst i = (i ≤ m) × (length dst ≡ length dst�
 abbrev μ-loop : tie.MeasureT-loop
 μ-loop src tw dst₀ m r i₀ dst i = m - i
 
-loop-holds : tie.Need-loop-holds Inv-loop μ-loop
-loop-holds c = (omega arith, refl, λ lent i p li lp. absurd (omega arith))
-
 first-requires : tie.Need-first-requires Inv-loop μ-loop
 first-requires c κs = (c .before .before .before .before .before .before .before .pre .0, omega (arith, c .before .least .ensures .0), omega (arith, c .before .before .before .before .before .before .before .pre .1, c .before .before .before .loop .inv .1))
-
-add-i : tie.Need-add-i Inv-loop μ-loop
-add-i c = omega (arith, c .before .before .before .before .least .ensures .0)
 
 loop-less : tie.Need-loop-less Inv-loop μ-loop
 loop-less c =
@@ -36,9 +30,6 @@ loop-again c =
     let l = c .before .before .before .before .before .before .loop in
     (omega (arith, c .before .before .before .before .least .ensures .0), c .before .before .first .kept .1 .1 .0 ∙ l .inv .1, λ lent. c .before .before .first .ensures lent (l .inv .2 lent))
 
-same-length : tie.Need-same-length Inv-loop μ-loop
-same-length c = c .before .loop .inv .1
-
 returns : tie.Need-returns Inv-loop μ-loop
 returns c =
     λ lent i p li lp. c .before .loop .inv .2 lent i p (omega arith) lp
@@ -46,5 +37,8 @@ returns c =
 pub first-stage-spec : {M : Type 1} → statement M
 first-stage-spec =
     tie.close
-    (tie.spec Inv-loop μ-loop loop-holds (λ c. search needs) (λ c κs. search needs) first-requires add-i loop-less loop-again same-length
-    returns)
+    (tie.spec Inv-loop μ-loop
+    (λ c. (omega arith, refl, λ lent i p li lp. absurd (omega arith)))
+    (λ c. search needs) (λ c κs. search needs) first-requires
+    (λ c. omega (arith, c .before .before .before .before .least .ensures .0))
+    loop-less loop-again (λ c. c .before .loop .inv .1) returns)

@@ -52,20 +52,11 @@ by-sixteens-requires c κs =
     let j = in-lanes (c .before .before) in
     (s .pre .0, s .pre .1, s .pre .2, rw (j .0) (s .pre .3), e .ensures .0, e .ensures .1, n .ensures .0, λ x. omega (arith, n .ensures .1 x), even-fours (e .result) (a .s) (n .result) (e .ensures .1) (f .1), j .1)
 
-same-length : tie.Need-same-length
-same-length c = c .before .before .by-sixteens .kept .1 .1 .0 ∙ in-lanes (c .before .before .before .before .before) .0
-
-returns : tie.Need-returns
-returns c = c .before .before .by-sixteens .ensures (in-lanes (c .before .before .before .before .before) .2)
-
-same-length-2 : tie.Need-same-length-2
-same-length-2 c = in-lanes (c .before) .0
-
-returns-2 : tie.Need-returns-2
-returns-2 c = λ i p li lp. in-lanes (c .before) .2 i p (omega (arith, c .if2 .left)) lp
-
 pub later-stage-spec : {M : Type 1} → statement M
 later-stage-spec =
     tie.close
-    (tie.spec (λ c κs. search needs) (λ c κs. search needs) by-fours-requires by-sixteens-requires same-length returns same-length-2
-    returns-2)
+    (tie.spec (λ c κs. search needs) (λ c κs. search needs) by-fours-requires by-sixteens-requires
+    (λ c. c .before .before .by-sixteens .kept .1 .1 .0 ∙ in-lanes (c .before .before .before .before .before) .0)
+    (λ c. c .before .before .by-sixteens .ensures (in-lanes (c .before .before .before .before .before) .2))
+    (λ c. in-lanes (c .before) .0)
+    (λ c. λ i p li lp. in-lanes (c .before) .2 i p (omega (arith, c .if2 .left)) lp))

@@ -4,11 +4,8 @@ use native.Mathlib.Omega.{arith}
 use Rattle.kernel.proofs.inner.stage.pick.Statement.{statement}
 use Rattle.kernel.proofs.inner.stage.pick.Tie as tie
 
-returns : tie.Need-returns
-returns c = (λ l. refl, λ l. absurd (omega (arith, c .if1 .taken)))
-
-returns-2 : tie.Need-returns-2
-returns-2 c = (λ l. absurd (omega (arith, c .if1 .left)), λ l. refl)
-
 pub pick-spec : {M : Type 1} → statement M
-pick-spec = tie.close (tie.spec returns returns-2)
+pick-spec = tie.close
+    (tie.spec
+    (λ c. (λ l. refl, λ l. absurd (omega (arith, c .if1 .taken))))
+    (λ c. (λ l. absurd (omega (arith, c .if1 .left)), λ l. refl)))

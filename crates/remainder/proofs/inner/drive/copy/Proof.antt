@@ -14,17 +14,11 @@ Inv-loop src dst₀ i₀ dst i = (length dst ≡ length src) × ((i ≤ length s
 abbrev μ-loop : tie.MeasureT-loop
 μ-loop src dst₀ i₀ dst i = length src - i
 
-loop-holds : tie.Need-loop-holds Inv-loop μ-loop
-loop-holds c = (c .pre, (omega arith, λ q l. absurd (omega arith)))
-
 loop-again : tie.Need-loop-again Inv-loop μ-loop
 loop-again c =
     let a = c .before .before .before .args in
     let l = c .before .before .loop in
     (length-set (l .dst) (l .i) (getD (a .src .now) (l .i) 0) ∙ l .inv .0, (omega (arith, c .before .loop-test .taken), copied-next 0 (a .src .now) (l .dst) (l .i) (omega (arith, c .before .loop-test .taken, l .inv .0)) (l .inv .1 .1)))
-
-same-length : tie.Need-same-length Inv-loop μ-loop
-same-length c = c .before .loop .inv .0 ∙ sym (c .before .before .pre)
 
 returns : tie.Need-returns Inv-loop μ-loop
 returns c =
@@ -35,5 +29,8 @@ returns c =
 pub copy-spec : {M : Type 1} → statement M
 copy-spec =
     tie.close
-    (tie.spec Inv-loop μ-loop loop-holds (λ c. search needs) (λ c. search needs) (λ c. search needs) (λ c. search needs) (λ c. search needs)
-    (λ c. search needs) loop-again same-length returns)
+    (tie.spec Inv-loop μ-loop
+    (λ c. (c .pre, (omega arith, λ q l. absurd (omega arith))))
+    (λ c. search needs) (λ c. search needs) (λ c. search needs) (λ c. search needs) (λ c. search needs) (λ c. search needs) loop-again
+    (λ c. c .before .loop .inv .0 ∙ sym (c .before .before .pre))
+    returns)

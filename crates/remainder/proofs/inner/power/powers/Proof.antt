@@ -14,32 +14,17 @@ Inv-loop w m all₀ t₀ all t = (1 ≤ t) × ((t ≤ 8) × ((length all ≡ 8) 
 abbrev μ-loop : tie.MeasureT-loop
 μ-loop w m all₀ t₀ all t = 8 - t
 
-loop-holds : tie.Need-loop-holds Inv-loop μ-loop
-loop-holds c = (omega arith, (omega arith, (refl, known-one (c .args .m) (c .args .w) (c .pre .0) (replicate 8 1) refl)))
-
-sub-all : tie.Need-sub-all Inv-loop μ-loop
-sub-all c = omega arith
-
-array-read-all : tie.Need-array-read-all Inv-loop μ-loop
-array-read-all c = omega arith
-
 mul-all-2 : tie.Need-mul-all-2 Inv-loop μ-loop
 mul-all-2 c = record { fits = product-fits _ (c .before .before .args .w) (c .before .before .args .m) (below-mod _ (c .before .before .args .w ^ (c .before .loop .t - 1)) _ (c .before .loop .inv .1 .1 .1 (c .before .loop .t - 1) (omega arith)) (omega (arith, c .before .before .pre .0))) (c .before .before .pre .1 .1) (c .before .before .pre .1 .0) }
-
-rem-all : tie.Need-rem-all Inv-loop μ-loop
-rem-all c = omega arith
-
-array-write-all : tie.Need-array-write-all Inv-loop μ-loop
-array-write-all c = omega arith
 
 loop-again : tie.Need-loop-again Inv-loop μ-loop
 loop-again c = (omega arith, (omega arith, (length-set (c .before .loop .all) (c .before .loop .t) (getD (c .before .loop .all) (c .before .loop .t - 1) 0 * c .before .before .args .w % c .before .before .args .m) ∙ c .before .loop .inv .1 .1 .0, known-next (c .before .before .args .m) (c .before .before .args .w) (c .before .before .pre .0) (c .before .loop .all) (c .before .loop .t) (c .before .loop .inv .0) (omega arith) (c .before .loop .inv .1 .1 .1))))
 
-returns : tie.Need-returns Inv-loop μ-loop
-returns c = λ t h. c .before .loop .inv .1 .1 .1 t (omega arith)
-
 pub powers-spec : {M : Type 1} → statement M
 powers-spec =
     tie.close
-    (tie.spec Inv-loop μ-loop loop-holds sub-all (λ c. search needs) array-read-all mul-all-2 rem-all (λ c. search needs) array-write-all
-    (λ c. search needs) (λ c. search needs) loop-again returns)
+    (tie.spec Inv-loop μ-loop
+    (λ c. (omega arith, (omega arith, (refl, known-one (c .args .m) (c .args .w) (c .pre .0) (replicate 8 1) refl))))
+    (λ c. omega arith) (λ c. search needs) (λ c. omega arith) mul-all-2 (λ c. omega arith) (λ c. search needs) (λ c. omega arith) (λ c. search needs)
+    (λ c. search needs) loop-again
+    (λ c. λ t h. c .before .loop .inv .1 .1 .1 t (omega arith)))
