@@ -8,9 +8,6 @@ use native.Mathlib.Omega.{arith}
 use Rattle.counts.proofs.end_twiddles.Statement.{statement}
 use Rattle.counts.proofs.end_twiddles.Tie as tie
 
-is-planned-requires : tie.Need-is-planned-requires
-is-planned-requires c κs = search needs
-
 returns : tie.Need-returns
 returns c = record { answer = sym (simp (record-refused (c .before .before .args .plan) (search accepted))) }
 
@@ -21,4 +18,4 @@ returns-2 : tie.Need-returns-2
 returns-2 c = record { answer = sym (simp (record-accepted (c .before .before .before .args .plan) (search accepted), ← c .end-count .ensures)) }
 
 pub end-twiddles-spec : {M : Type 1} → statement M
-end-twiddles-spec = tie.close (tie.spec is-planned-requires returns end-count-requires returns-2)
+end-twiddles-spec = tie.close (tie.spec (λ c κs. search needs) returns end-count-requires returns-2)

@@ -6,17 +6,11 @@ use borrow.Author.Needs.{needs}
 use Rattle.counts.proofs.result.Statement.{statement}
 use Rattle.counts.proofs.result.Tie as tie
 
-is-planned-requires : tie.Need-is-planned-requires
-is-planned-requires c κs = search needs
-
 returns : tie.Need-returns
 returns c = record { answer = sym (simp (record-refused (c .before .before .args .plan) (search accepted))) }
-
-result-in-requires : tie.Need-result-in-requires
-result-in-requires c κs = search needs
 
 returns-2 : tie.Need-returns-2
 returns-2 c = record { answer = sym (simp (record-accepted (c .before .before .before .args .plan) (search accepted), ← c .result-in .ensures)) }
 
 pub result-spec : {M : Type 1} → statement M
-result-spec = tie.close (tie.spec is-planned-requires returns result-in-requires returns-2)
+result-spec = tie.close (tie.spec (λ c κs. search needs) returns (λ c κs. search needs) returns-2)

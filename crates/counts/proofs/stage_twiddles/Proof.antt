@@ -7,9 +7,6 @@ use native.Mathlib.Omega.{arith}
 use Rattle.counts.proofs.stage_twiddles.Statement.{statement}
 use Rattle.counts.proofs.stage_twiddles.Tie as tie
 
-is-planned-requires : tie.Need-is-planned-requires
-is-planned-requires c κs = search needs
-
 returns : tie.Need-returns
 returns c = record { answer = sym (simp (record-refused (c .before .before .args .plan) (search accepted))) }
 
@@ -21,4 +18,5 @@ returns-2 c = record { answer = sym (simp (record-accepted (c .before .before .b
 
 pub stage-twiddles-spec : {M : Type 1} → statement M
 stage-twiddles-spec =
-    tie.close (tie.spec is-planned-requires returns twiddle-start-requires returns-2)
+    tie.close
+    (tie.spec (λ c κs. search needs) returns twiddle-start-requires returns-2)

@@ -5,14 +5,8 @@ use lib.ListN.{List·getD-eq-default}
 use Rattle.ladlespindle.proofs.entry.Statement.{statement}
 use Rattle.ladlespindle.proofs.entry.Tie as tie
 
-array-read-result : tie.Need-array-read-result
-array-read-result c = search needs
-
-returns : tie.Need-returns
-returns c = search needs
-
 returns-2 : tie.Need-returns-2
 returns-2 c = sym (List·getD-eq-default (c .before .args .t1) 0 (search needs))
 
 pub entry-spec : {M : Type 1} → statement M
-entry-spec = tie.close (tie.spec array-read-result returns returns-2)
+entry-spec = tie.close (tie.spec (λ c. search needs) (λ c. search needs) returns-2)

@@ -4,9 +4,6 @@ use Rattle.ladlespindle.proofs.Answers.{accepts-one, accepts-none}
 use Rattle.ladlespindle.proofs.ladlespindle_accepts.Statement.{statement}
 use Rattle.ladlespindle.proofs.ladlespindle_accepts.Tie as tie
 
-accepts-requires : tie.Need-accepts-requires
-accepts-requires c κs = search needs
-
 returns : tie.Need-returns
 returns c = accepts-one _ _ (c .before .accepts .ensures) (c .if1 .taken)
 
@@ -14,4 +11,4 @@ returns-2 : tie.Need-returns-2
 returns-2 c = accepts-none _ _ (c .before .accepts .ensures) (c .if1 .left)
 
 pub ladlespindle-accepts-spec : {M : Type 1} → statement M
-ladlespindle-accepts-spec = tie.close (tie.spec accepts-requires returns returns-2)
+ladlespindle-accepts-spec = tie.close (tie.spec (λ c κs. search needs) returns returns-2)

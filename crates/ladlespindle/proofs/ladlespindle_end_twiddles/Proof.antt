@@ -6,16 +6,10 @@ use Rattle.ladlespindle.proofs.Answers.{count-for}
 use Rattle.ladlespindle.proofs.ladlespindle_end_twiddles.Statement.{statement}
 use Rattle.ladlespindle.proofs.ladlespindle_end_twiddles.Tie as tie
 
-plan-requires : tie.Need-plan-requires
-plan-requires c κs = search needs
-
-end-twiddles-requires : tie.Need-end-twiddles-requires
-end-twiddles-requires c κs = search needs
-
 returns : tie.Need-returns
 returns c =
     let planning = c .before in
     record { answer = count-for (planning .before .before .args .list .now) (planning .plan .result) (planning .plan .ensures .answer) (λ (p : Record). endCount (p .n)) (c .end-twiddles .result) (c .end-twiddles .ensures .answer) }
 
 pub ladlespindle-end-twiddles-spec : {M : Type 1} → statement M
-ladlespindle-end-twiddles-spec = tie.close (tie.spec plan-requires end-twiddles-requires returns)
+ladlespindle-end-twiddles-spec = tie.close (tie.spec (λ c κs. search needs) (λ c κs. search needs) returns)

@@ -6,12 +6,6 @@ use Rattle.plan.specs.declared.Planned.{Planned}
 use Rattle.ladlespindle.proofs.ladlespindle_merge_letter.Statement.{statement}
 use Rattle.ladlespindle.proofs.ladlespindle_merge_letter.Tie as tie
 
-plan-requires : tie.Need-plan-requires
-plan-requires c κs = search needs
-
-entry-requires : tie.Need-entry-requires
-entry-requires c κs = search needs
-
 returns : tie.Need-returns
 returns c =
     let at-plan = c .before .before .before in
@@ -19,4 +13,4 @@ returns c =
     record { answer = c .entry .ensures ∙ ap (λ (a : Planned). getD (a .merges .letters) (at .index) 0) (at-plan .plan .ensures .answer) }
 
 pub ladlespindle-merge-letter-spec : {M : Type 1} → statement M
-ladlespindle-merge-letter-spec = tie.close (tie.spec plan-requires entry-requires returns)
+ladlespindle-merge-letter-spec = tie.close (tie.spec (λ c κs. search needs) (λ c κs. search needs) returns)

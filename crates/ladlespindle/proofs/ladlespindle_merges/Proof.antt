@@ -5,11 +5,8 @@ use Rattle.plan.specs.declared.Planned.{Planned}
 use Rattle.ladlespindle.proofs.ladlespindle_merges.Statement.{statement}
 use Rattle.ladlespindle.proofs.ladlespindle_merges.Tie as tie
 
-plan-requires : tie.Need-plan-requires
-plan-requires c κs = search needs
-
 returns : tie.Need-returns
 returns c = record { answer = ap (λ (a : Planned). a .merges .count) (c .plan .ensures .answer) }
 
 pub ladlespindle-merges-spec : {M : Type 1} → statement M
-ladlespindle-merges-spec = tie.close (tie.spec plan-requires returns)
+ladlespindle-merges-spec = tie.close (tie.spec (λ c κs. search needs) returns)

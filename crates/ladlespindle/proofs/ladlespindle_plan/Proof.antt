@@ -5,11 +5,8 @@ use Rattle.plan.specs.declared.Planned.{Planned}
 use Rattle.ladlespindle.proofs.ladlespindle_plan.Statement.{statement}
 use Rattle.ladlespindle.proofs.ladlespindle_plan.Tie as tie
 
-plan-requires : tie.Need-plan-requires
-plan-requires c κs = search needs
-
 returns : tie.Need-returns
 returns c = record { answer = ap (λ (a : Planned). a .plan) (c .before .plan .ensures .answer) }
 
 pub ladlespindle-plan-spec : {M : Type 1} → statement M
-ladlespindle-plan-spec = tie.close (tie.spec plan-requires returns)
+ladlespindle-plan-spec = tie.close (tie.spec (λ c κs. search needs) returns)

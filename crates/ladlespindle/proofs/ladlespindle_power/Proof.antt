@@ -6,15 +6,6 @@ use Rattle.ladlespindle.specs.Calls.{powerAs, powered}
 use Rattle.ladlespindle.proofs.ladlespindle_power.Statement.{statement}
 use Rattle.ladlespindle.proofs.ladlespindle_power.Tie as tie
 
-power-requires : tie.Need-power-requires
-power-requires c κs = search needs
-
-number-requires : tie.Need-number-requires
-number-requires c κs = search needs
-
-place-requires : tie.Need-place-requires
-place-requires c κs = search needs
-
 returns : tie.Need-returns
 returns c =
     let s = c .before .before .power in
@@ -24,4 +15,4 @@ returns c =
     }
 
 pub ladlespindle-power-spec : {M : Type 1} → statement M
-ladlespindle-power-spec = tie.close (tie.spec power-requires number-requires place-requires returns)
+ladlespindle-power-spec = tie.close (tie.spec (λ c κs. search needs) (λ c κs. search needs) (λ c κs. search needs) returns)

@@ -6,12 +6,6 @@ use Rattle.plan.specs.declared.Planned.{Planned}
 use Rattle.ladlespindle.proofs.ladlespindle_radix.Statement.{statement}
 use Rattle.ladlespindle.proofs.ladlespindle_radix.Tie as tie
 
-plan-requires : tie.Need-plan-requires
-plan-requires c κs = search needs
-
-entry-requires : tie.Need-entry-requires
-entry-requires c κs = search needs
-
 returns : tie.Need-returns
 returns c =
     let at-plan = c .before .before .before in
@@ -19,4 +13,4 @@ returns c =
     record { answer = c .entry .ensures ∙ ap (λ (a : Planned). getD (a .plan .radices) (at .stage) 0) (at-plan .plan .ensures .answer) }
 
 pub ladlespindle-radix-spec : {M : Type 1} → statement M
-ladlespindle-radix-spec = tie.close (tie.spec plan-requires entry-requires returns)
+ladlespindle-radix-spec = tie.close (tie.spec (λ c κs. search needs) (λ c κs. search needs) returns)

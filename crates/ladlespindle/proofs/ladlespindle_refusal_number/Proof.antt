@@ -6,14 +6,8 @@ use Rattle.plan.specs.declared.Planned.{Planned}
 use Rattle.ladlespindle.proofs.ladlespindle_refusal_number.Statement.{statement}
 use Rattle.ladlespindle.proofs.ladlespindle_refusal_number.Tie as tie
 
-plan-requires : tie.Need-plan-requires
-plan-requires c κs = search needs
-
-number-requires : tie.Need-number-requires
-number-requires c κs = search needs
-
 returns : tie.Need-returns
 returns c = record { answer = c .number .ensures .answer ∙ ap (λ (a : Planned). numberIn (a .verdict)) (c .before .plan .ensures .answer) }
 
 pub ladlespindle-refusal-number-spec : {M : Type 1} → statement M
-ladlespindle-refusal-number-spec = tie.close (tie.spec plan-requires number-requires returns)
+ladlespindle-refusal-number-spec = tie.close (tie.spec (λ c κs. search needs) (λ c κs. search needs) returns)

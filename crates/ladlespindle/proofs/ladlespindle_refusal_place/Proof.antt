@@ -6,14 +6,8 @@ use Rattle.plan.specs.declared.Planned.{Planned}
 use Rattle.ladlespindle.proofs.ladlespindle_refusal_place.Statement.{statement}
 use Rattle.ladlespindle.proofs.ladlespindle_refusal_place.Tie as tie
 
-plan-requires : tie.Need-plan-requires
-plan-requires c κs = search needs
-
-place-requires : tie.Need-place-requires
-place-requires c κs = search needs
-
 returns : tie.Need-returns
 returns c = record { answer = c .place .ensures .answer ∙ ap (λ (a : Planned). placeIn (a .verdict)) (c .before .plan .ensures .answer) }
 
 pub ladlespindle-refusal-place-spec : {M : Type 1} → statement M
-ladlespindle-refusal-place-spec = tie.close (tie.spec plan-requires place-requires returns)
+ladlespindle-refusal-place-spec = tie.close (tie.spec (λ c κs. search needs) (λ c κs. search needs) returns)

@@ -7,15 +7,6 @@ use Rattle.ladlespindle.proofs.Answers.{buffer-for}
 use Rattle.ladlespindle.proofs.ladlespindle_result.Statement.{statement}
 use Rattle.ladlespindle.proofs.ladlespindle_result.Tie as tie
 
-plan-requires : tie.Need-plan-requires
-plan-requires c κs = search needs
-
-result-requires : tie.Need-result-requires
-result-requires c κs = search needs
-
-number-requires : tie.Need-number-requires
-number-requires c κs = search needs
-
 returns : tie.Need-returns
 returns c =
     let locating = c .before in
@@ -23,4 +14,4 @@ returns c =
     record { answer = c .number .ensures .answer ∙ buffer-for (planning .before .before .args .list .now) (planning .plan .result) (planning .plan .ensures .answer) (λ (p : Record). resultIn (p .count)) (locating .result .result) (locating .result .ensures .answer) }
 
 pub ladlespindle-result-spec : {M : Type 1} → statement M
-ladlespindle-result-spec = tie.close (tie.spec plan-requires result-requires number-requires returns)
+ladlespindle-result-spec = tie.close (tie.spec (λ c κs. search needs) (λ c κs. search needs) (λ c κs. search needs) returns)

@@ -4,15 +4,6 @@ use Rattle.ladlespindle.proofs.Answers.{crossed-by}
 use Rattle.ladlespindle.proofs.ladlespindle_scale.Statement.{statement}
 use Rattle.ladlespindle.proofs.ladlespindle_scale.Tie as tie
 
-scale-requires : tie.Need-scale-requires
-scale-requires c κs = search needs
-
-number-requires : tie.Need-number-requires
-number-requires c κs = search needs
-
-place-requires : tie.Need-place-requires
-place-requires c κs = search needs
-
 returns : tie.Need-returns
 returns c =
     let numbering = c .before in
@@ -20,4 +11,4 @@ returns c =
     crossed-by _ _ (scaling .scale .result) (scaling .scale .ensures) _ _ (numbering .number .ensures .answer) (c .place .ensures .answer)
 
 pub ladlespindle-scale-spec : {M : Type 1} → statement M
-ladlespindle-scale-spec = tie.close (tie.spec scale-requires number-requires place-requires returns)
+ladlespindle-scale-spec = tie.close (tie.spec (λ c κs. search needs) (λ c κs. search needs) (λ c κs. search needs) returns)

@@ -4,18 +4,6 @@ use borrow.Author.Needs.{needs}
 use Rattle.ladlespindle.proofs.ladlespindle_stage.Statement.{statement}
 use Rattle.ladlespindle.proofs.ladlespindle_stage.Tie as tie
 
-stage-requires : tie.Need-stage-requires
-stage-requires c κs = search needs
-
-number-requires : tie.Need-number-requires
-number-requires c κs = search needs
-
-place-requires : tie.Need-place-requires
-place-requires c κs = search needs
-
-same-length : tie.Need-same-length
-same-length c = search needs
-
 returns : tie.Need-returns
 returns c =
     let o = c .before .before .before .before .stage in
@@ -23,4 +11,5 @@ returns c =
 
 pub ladlespindle-stage-spec : {M : Type 1} → statement M
 ladlespindle-stage-spec =
-    tie.close (tie.spec stage-requires number-requires place-requires same-length returns)
+    tie.close
+    (tie.spec (λ c κs. search needs) (λ c κs. search needs) (λ c κs. search needs) (λ c. search needs) returns)

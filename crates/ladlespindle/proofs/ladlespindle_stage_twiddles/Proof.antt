@@ -5,16 +5,10 @@ use Rattle.ladlespindle.proofs.Answers.{count-for}
 use Rattle.ladlespindle.proofs.ladlespindle_stage_twiddles.Statement.{statement}
 use Rattle.ladlespindle.proofs.ladlespindle_stage_twiddles.Tie as tie
 
-plan-requires : tie.Need-plan-requires
-plan-requires c κs = search needs
-
-stage-twiddles-requires : tie.Need-stage-twiddles-requires
-stage-twiddles-requires c κs = search needs
-
 returns : tie.Need-returns
 returns c =
     let planning = c .before in
     record { answer = count-for (planning .before .before .args .list .now) (planning .plan .result) (planning .plan .ensures .answer) stageTwiddles (c .stage-twiddles .result) (c .stage-twiddles .ensures .answer) }
 
 pub ladlespindle-stage-twiddles-spec : {M : Type 1} → statement M
-ladlespindle-stage-twiddles-spec = tie.close (tie.spec plan-requires stage-twiddles-requires returns)
+ladlespindle-stage-twiddles-spec = tie.close (tie.spec (λ c κs. search needs) (λ c κs. search needs) returns)

@@ -5,11 +5,8 @@ use Rattle.plan.specs.declared.Planned.{Planned}
 use Rattle.ladlespindle.proofs.ladlespindle_stages.Statement.{statement}
 use Rattle.ladlespindle.proofs.ladlespindle_stages.Tie as tie
 
-plan-requires : tie.Need-plan-requires
-plan-requires c κs = search needs
-
 returns : tie.Need-returns
 returns c = record { answer = ap (λ (a : Planned). a .plan .count) (c .plan .ensures .answer) }
 
 pub ladlespindle-stages-spec : {M : Type 1} → statement M
-ladlespindle-stages-spec = tie.close (tie.spec plan-requires returns)
+ladlespindle-stages-spec = tie.close (tie.spec (λ c κs. search needs) returns)

@@ -5,13 +5,10 @@ use borrow.Author.Needs.{needs}
 use Rattle.plan.proofs.accepts.Statement.{statement}
 use Rattle.plan.proofs.accepts.Tie as tie
 
-is-planned-requires : tie.Need-is-planned-requires
-is-planned-requires c κs = search needs
-
 returns : tie.Need-returns
 returns c =
     let p = c .before .args .plan in
     record { answer = (λ e. passes-plannable p (sym (c .is-planned .ensures) ∙ e), λ e. c .is-planned .ensures ∙ plannable-passes p e) }
 
 pub accepts-spec : {M : Type 1} → statement M
-accepts-spec = tie.close (tie.spec is-planned-requires returns)
+accepts-spec = tie.close (tie.spec (λ c κs. search needs) returns)

@@ -21,9 +21,6 @@ read-radices-requires : tie.Need-read-radices-requires
 read-radices-requires c κs =
     omega (arith, length-take (c .before .least .result) (c .before .before .before .args .input .now))
 
-array-share-prefix-list : tie.Need-array-share-prefix-list
-array-share-prefix-list c = omega arith
-
 slice-aggregate-plan : tie.Need-slice-aggregate-plan
 slice-aggregate-plan c =
     let r = c .before .before .read-radices .result in
@@ -69,5 +66,5 @@ returns-2 c =
 pub report-spec : {M : Type 1} → statement M
 report-spec =
     tie.close
-    (tie.spec (λ c κs. search needs) slice-aggregate-read-radices read-radices-requires array-share-prefix-list slice-aggregate-plan
+    (tie.spec (λ c κs. search needs) slice-aggregate-read-radices read-radices-requires (λ c. omega arith) slice-aggregate-plan
     (λ c κs. search needs) enum-told plan-lines-requires (λ c. search needs) (λ c κs. search needs) returns returns-2)

@@ -13,14 +13,8 @@ equals-itself nan h = absurd (true≢false h)
 equals-itself (inf s) h = tt
 equals-itself (fin s m e) h = tt
 
-returns : tie.Need-returns
-returns c = search needs
-
 float-to-bits-result : tie.Need-float-to-bits-result
 float-to-bits-result c = equals-itself (c .before .args .x) (c .if1 .left)
 
-returns-2 : tie.Need-returns-2
-returns-2 c = search needs
-
 pub bits-spec : {M : Type 1} → statement M
-bits-spec = tie.close (tie.spec returns float-to-bits-result returns-2)
+bits-spec = tie.close (tie.spec (λ c. search needs) float-to-bits-result (λ c. search needs))

@@ -5,9 +5,6 @@ use borrow.Author.Needs.{needs}
 use Rattle.counts.proofs.inner.stages.end_count.Statement.{statement}
 use Rattle.counts.proofs.inner.stages.end_count.Tie as tie
 
-sub-result : tie.Need-sub-result
-sub-result c = search needs
-
 returns : tie.Need-returns
 unfolding endCount
 returns c = simp (eq-eqb _ _ (c .if1 .taken))
@@ -17,4 +14,4 @@ unfolding endCount
 returns-2 c = simp (ne-eqb _ _ (c .if1 .left))
 
 pub end-count-spec : {M : Type 1} → statement M
-end-count-spec = tie.close (tie.spec sub-result returns returns-2)
+end-count-spec = tie.close (tie.spec (λ c. search needs) returns returns-2)

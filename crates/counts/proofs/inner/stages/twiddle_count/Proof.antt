@@ -12,9 +12,6 @@ returns c = count-first (c .before .args .t1 .half) (c .before .args .t1 .radice
 element-copy-out-r : tie.Need-element-copy-out-r
 element-copy-out-r c = omega (arith, plan-order (c .before .args .t1) (c .before .pre .0) .few)
 
-cast-r : tie.Need-cast-r
-cast-r c = search needs
-
 div-result : tie.Need-div-result
 div-result c = omega (arith, plan-radix-bounds (c .before .before .args .t1) (c .before .before .pre .0) (c .before .before .args .j) (c .before .before .pre .1))
 
@@ -30,4 +27,4 @@ returns-2 c = count-later (c .before .before .args .t1) (c .before .before .pre 
 pub twiddle-count-spec : {M : Type 1} → statement M
 twiddle-count-spec =
     tie.close
-    (tie.spec returns element-copy-out-r cast-r div-result sub-result mul-result returns-2)
+    (tie.spec returns element-copy-out-r (λ c. search needs) div-result sub-result mul-result returns-2)

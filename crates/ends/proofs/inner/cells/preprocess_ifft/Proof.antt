@@ -8,20 +8,11 @@ use Rattle.ends.specs.Parts.{conjugating}
 use Rattle.ends.proofs.inner.cells.preprocess_ifft.Statement.{statement}
 use Rattle.ends.proofs.inner.cells.preprocess_ifft.Tie as tie
 
-get-requires : tie.Need-get-requires
-get-requires c κs = search needs
-
 end-requires : tie.Need-end-requires
 end-requires c κs =
     let s = c .before .before .before .before .before in
     let e = c .before .get .ensures in
     (s .pre .0, omega (arith, s .pre .1), record { first = ap (conjugating ifftSteps .first (cell (s .args .cells .now) 0)) e; last = e })
 
-same-length : tie.Need-same-length
-same-length c = search needs
-
-returns : tie.Need-returns
-returns c = search needs
-
 pub preprocess-ifft-spec : {M : Type 1} → statement M
-preprocess-ifft-spec = tie.close (tie.spec get-requires end-requires same-length returns)
+preprocess-ifft-spec = tie.close (tie.spec (λ c κs. search needs) end-requires (λ c. search needs) (λ c. search needs))

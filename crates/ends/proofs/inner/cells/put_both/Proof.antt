@@ -7,17 +7,8 @@ use Rattle.floats.specs.Complexes.{putCell}
 use Rattle.ends.proofs.inner.cells.put_both.Statement.{statement}
 use Rattle.ends.proofs.inner.cells.put_both.Tie as tie
 
-put-requires : tie.Need-put-requires
-put-requires c κs = search needs
-
-put-requires-2 : tie.Need-put-requires-2
-put-requires-2 c κs = search needs
-
-same-length : tie.Need-same-length
-same-length c = search needs
-
 returns : tie.Need-returns
 returns c = c .before .before .put2 .ensures ∙ ap (λ (l : List Float). putCell l (c .before .before .before .before .before .before .before .before .before .args .j) (c .before .before .before .before .before .before .before .before .before .args .z)) (c .before .before .before .before .before .before .put .ensures)
 
 pub put-both-spec : {M : Type 1} → statement M
-put-both-spec = tie.close (tie.spec put-requires put-requires-2 same-length returns)
+put-both-spec = tie.close (tie.spec (λ c κs. search needs) (λ c κs. search needs) (λ c. search needs) returns)

@@ -3,17 +3,8 @@ use borrow.Author.Needs.{needs}
 use Rattle.ends.proofs.inner.pairs.ifft_near.Statement.{statement}
 use Rattle.ends.proofs.inner.pairs.ifft_near.Tie as tie
 
-add-requires : tie.Need-add-requires
-add-requires c κs = search needs
-
-sub-requires : tie.Need-sub-requires
-sub-requires c κs = search needs
-
-mix-requires : tie.Need-mix-requires
-mix-requires c κs = search needs
-
 returns : tie.Need-returns
 returns c = simp (c .before .before .before .before .mix .ensures, c .before .before .before .before .before .sub .ensures, c .before .before .before .before .before .before .add .ensures)
 
 pub ifft-near-spec : {M : Type 1} → statement M
-ifft-near-spec = tie.close (tie.spec add-requires sub-requires mix-requires returns)
+ifft-near-spec = tie.close (tie.spec (λ c κs. search needs) (λ c κs. search needs) (λ c κs. search needs) returns)

@@ -5,12 +5,6 @@ use Rattle.floats.proofs.Signs.{conjugate-twice}
 use Rattle.ends.proofs.inner.steps.centre.Statement.{statement}
 use Rattle.ends.proofs.inner.steps.centre.Tie as tie
 
-conj-requires : tie.Need-conj-requires
-conj-requires c κs = search needs
-
-add-requires : tie.Need-add-requires
-add-requires c κs = search needs
-
 returns : tie.Need-returns
 returns c = rw (c .before .if1 .taken) (c .conj .ensures)
 
@@ -18,4 +12,4 @@ returns-2 : tie.Need-returns-2
 returns-2 c = rw (c .before .if1 .left) (c .add .ensures ∙ sym (conjugate-twice _))
 
 pub centre-spec : {M : Type 1} → statement M
-centre-spec = tie.close (tie.spec conj-requires add-requires returns returns-2)
+centre-spec = tie.close (tie.spec (λ c κs. search needs) (λ c κs. search needs) returns returns-2)

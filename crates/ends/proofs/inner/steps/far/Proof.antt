@@ -3,12 +3,6 @@ use borrow.Author.Needs.{needs}
 use Rattle.ends.proofs.inner.steps.far.Statement.{statement}
 use Rattle.ends.proofs.inner.steps.far.Tie as tie
 
-fft-far-requires : tie.Need-fft-far-requires
-fft-far-requires c κs = search needs
-
-ifft-far-requires : tie.Need-ifft-far-requires
-ifft-far-requires c κs = search needs
-
 returns : tie.Need-returns
 returns c = rw (c .before .if1 .taken) (c .fft-far .ensures)
 
@@ -16,4 +10,4 @@ returns-2 : tie.Need-returns-2
 returns-2 c = rw (c .before .if1 .left) (c .ifft-far .ensures)
 
 pub far-spec : {M : Type 1} → statement M
-far-spec = tie.close (tie.spec fft-far-requires ifft-far-requires returns returns-2)
+far-spec = tie.close (tie.spec (λ c κs. search needs) (λ c κs. search needs) returns returns-2)

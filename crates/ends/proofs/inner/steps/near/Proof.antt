@@ -3,12 +3,6 @@ use borrow.Author.Needs.{needs}
 use Rattle.ends.proofs.inner.steps.near.Statement.{statement}
 use Rattle.ends.proofs.inner.steps.near.Tie as tie
 
-fft-near-requires : tie.Need-fft-near-requires
-fft-near-requires c κs = search needs
-
-ifft-near-requires : tie.Need-ifft-near-requires
-ifft-near-requires c κs = search needs
-
 returns : tie.Need-returns
 returns c = rw (c .before .if1 .taken) (c .fft-near .ensures)
 
@@ -16,4 +10,4 @@ returns-2 : tie.Need-returns-2
 returns-2 c = rw (c .before .if1 .left) (c .ifft-near .ensures)
 
 pub near-spec : {M : Type 1} → statement M
-near-spec = tie.close (tie.spec fft-near-requires ifft-near-requires returns returns-2)
+near-spec = tie.close (tie.spec (λ c κs. search needs) (λ c κs. search needs) returns returns-2)

@@ -20,17 +20,8 @@ loop-holds c = (omega arith, mapped-none conjugate _)
 get-requires : tie.Need-get-requires Inv-loop μ-loop
 get-requires c κs = omega (arith, c .before .before .loop .inv .1 .size, c .before .before .before .before .pre .1, c .before .loop-test .taken)
 
-conj-requires : tie.Need-conj-requires Inv-loop μ-loop
-conj-requires c κs = search needs
-
 put-requires : tie.Need-put-requires Inv-loop μ-loop
 put-requires c κs = omega (arith, c .before .before .before .before .before .loop .inv .1 .size, c .before .before .before .before .before .before .before .pre .1, c .before .before .before .before .loop-test .taken)
-
-add-i : tie.Need-add-i Inv-loop μ-loop
-add-i c = search needs
-
-loop-less : tie.Need-loop-less Inv-loop μ-loop
-loop-less c = search needs
 
 loop-again : tie.Need-loop-again Inv-loop μ-loop
 loop-again c =
@@ -51,4 +42,7 @@ returns c =
     conjugated-all (s .args .h) (s .args .cells .now) (l .cells) (s .pre .1) (rw e at (l .inv .1))
 
 pub conjugate-spec : {M : Type 1} → statement M
-conjugate-spec = tie.close (tie.spec Inv-loop μ-loop loop-holds get-requires conj-requires put-requires add-i loop-less loop-again same-length returns)
+conjugate-spec =
+    tie.close
+    (tie.spec Inv-loop μ-loop loop-holds get-requires (λ c κs. search needs) put-requires (λ c. search needs) (λ c. search needs) loop-again
+    same-length returns)

@@ -20,27 +20,6 @@ abbrev μ-loop : tie.MeasureT-loop
 loop-holds : tie.Need-loop-holds Inv-loop μ-loop
 loop-holds c = (refl, omega arith, paste-zero (c .args .dst .now) (c .args .at) (c .args .src .now))
 
-mul-dst : tie.Need-mul-dst Inv-loop μ-loop
-mul-dst c = search needs
-
-shared-slice-read-dst : tie.Need-shared-slice-read-dst Inv-loop μ-loop
-shared-slice-read-dst c = search needs
-
-add-dst : tie.Need-add-dst Inv-loop μ-loop
-add-dst c = search needs
-
-mul-dst-2 : tie.Need-mul-dst-2 Inv-loop μ-loop
-mul-dst-2 c = search needs
-
-slice-write-dst : tie.Need-slice-write-dst Inv-loop μ-loop
-slice-write-dst c = search needs
-
-add-i : tie.Need-add-i Inv-loop μ-loop
-add-i c = search needs
-
-loop-less : tie.Need-loop-less Inv-loop μ-loop
-loop-less c = search needs
-
 loop-again : tie.Need-loop-again Inv-loop μ-loop
 loop-again c =
     let a = c .before .before .before .args in
@@ -64,4 +43,7 @@ returns c =
     l .inv .2 ∙ ap (λ (n : ℕ). paste (a .dst .now) (a .at) (a .src .now) n) e ∙ ap (λ (x : List Float). take (a .at) (a .dst .now) ++ x ++ drop (a .at + length (a .src .now)) (a .dst .now)) (take-length (a .src .now))
 
 pub paste-spec : {M : Type 1} → statement M
-paste-spec = tie.close (tie.spec Inv-loop μ-loop loop-holds mul-dst shared-slice-read-dst add-dst mul-dst-2 slice-write-dst add-i loop-less loop-again same-length returns)
+paste-spec =
+    tie.close
+    (tie.spec Inv-loop μ-loop loop-holds (λ c. search needs) (λ c. search needs) (λ c. search needs) (λ c. search needs) (λ c. search needs)
+    (λ c. search needs) (λ c. search needs) loop-again same-length returns)

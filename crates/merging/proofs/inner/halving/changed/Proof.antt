@@ -10,12 +10,6 @@ use borrow.Author.Needs.{needs}
 use Rattle.merging.proofs.inner.halving.changed.Statement.{statement}
 use Rattle.merging.proofs.inner.halving.changed.Tie as tie
 
-copied-requires : tie.Need-copied-requires
-copied-requires c κs = search needs
-
-array-write-entries : tie.Need-array-write-entries
-array-write-entries c = search needs
-
 returns : tie.Need-returns
 returns c =
     let a = c .before .before .args in
@@ -24,4 +18,4 @@ returns c =
     ∙ ap listed (sym (halved-becomes (a .at) (a .to) (a .list .now)))
 
 pub changed-spec : {M : Type 1} → statement M
-changed-spec = tie.close (tie.spec copied-requires array-write-entries returns)
+changed-spec = tie.close (tie.spec (λ c κs. search needs) (λ c. search needs) returns)

@@ -8,9 +8,6 @@ use borrow.Author.Needs.{needs}
 use Rattle.plan.proofs.inner.records.makes.Statement.{statement}
 use Rattle.plan.proofs.inner.records.makes.Tie as tie
 
-running-product-requires : tie.Need-running-product-requires
-running-product-requires c κs = search needs
-
 returns : tie.Need-returns
 returns c =
     let s = c .before .before .before .before in
@@ -21,4 +18,4 @@ returns-2 : tie.Need-returns-2
 returns-2 c = ap (λ (n : ℕ). eqb n (c .before .before .before .before .before .args .half)) (running-through _ _ (c .before .before .before .running-product .ensures) (c .before .if1 .left))
 
 pub makes-spec : {M : Type 1} → statement M
-makes-spec = tie.close (tie.spec running-product-requires returns returns-2)
+makes-spec = tie.close (tie.spec (λ c κs. search needs) returns returns-2)

@@ -15,23 +15,11 @@ use Rattle.plan_text.proofs.Plans.{planned-count, count-of, buffer-of}
 use Rattle.plan_text.proofs.inner.lines.plan_lines.Statement.{statement}
 use Rattle.plan_text.proofs.inner.lines.plan_lines.Tie as tie
 
-number-line-requires : tie.Need-number-line-requires
-number-line-requires c κs = omega arith
-
-number-line-requires-2 : tie.Need-number-line-requires-2
-number-line-requires-2 c κs = omega arith
-
 factors-line-requires : tie.Need-factors-line-requires
 factors-line-requires c κs = (
   planned-count (c .before .before .before .before .before .before .args .plan) (c .before .before .before .before .before .before .pre),
   omega arith,
 )
-
-number-line-requires-3 : tie.Need-number-line-requires-3
-number-line-requires-3 c κs = omega arith
-
-number-line-requires-4 : tie.Need-number-line-requires-4
-number-line-requires-4 c κs = omega arith
 
 number-line-requires-5 : tie.Need-number-line-requires-5
 number-line-requires-5 c κs = omega (arith, c .before .before .before .before .before .before .before .before .before)
@@ -76,6 +64,6 @@ returns c =
 pub plan-lines-spec : {M : Type 1} → statement M
 plan-lines-spec =
     tie.close
-    (tie.spec (λ c κs. search needs) (λ c. search needs) number-line-requires (λ c. search needs) number-line-requires-2
-    factors-line-requires (λ c. search needs) number-line-requires-3 (λ c. search needs) (λ c κs. search needs) number-line-requires-4
+    (tie.spec (λ c κs. search needs) (λ c. search needs) (λ c κs. omega arith) (λ c. search needs) (λ c κs. omega arith)
+    factors-line-requires (λ c. search needs) (λ c κs. omega arith) (λ c. search needs) (λ c κs. search needs) (λ c κs. omega arith)
     (λ c. search needs) (λ c κs. search needs) number-line-requires-5 (λ c κs. search needs) result-line-requires returns)

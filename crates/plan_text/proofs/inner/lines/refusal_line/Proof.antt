@@ -12,18 +12,6 @@ use Rattle.plan_text.proofs.Growing.{then, said, holds, two-words}
 use Rattle.plan_text.proofs.inner.lines.refusal_line.Statement.{statement}
 use Rattle.plan_text.proofs.inner.lines.refusal_line.Tie as tie
 
-with-bytes-requires : tie.Need-with-bytes-requires
-with-bytes-requires c κs = omega arith
-
-with-number-requires : tie.Need-with-number-requires
-with-number-requires c κs = omega arith
-
-with-number-requires-2 : tie.Need-with-number-requires-2
-with-number-requires-2 c κs = omega arith
-
-with-byte-requires : tie.Need-with-byte-requires
-with-byte-requires c κs = omega arith
-
 returns : tie.Need-returns
 unfolding refusalLine
 returns c =
@@ -40,5 +28,5 @@ returns c =
 pub refusal-line-spec : {M : Type 1} → statement M
 refusal-line-spec =
     tie.close
-    (tie.spec (λ c κs. search needs) (λ c. search needs) with-bytes-requires (λ c κs. search needs) (λ c. search needs) with-number-requires
-    (λ c κs. search needs) with-number-requires-2 with-byte-requires returns)
+    (tie.spec (λ c κs. search needs) (λ c. search needs) (λ c κs. omega arith) (λ c κs. search needs) (λ c. search needs)
+    (λ c κs. omega arith) (λ c κs. search needs) (λ c κs. omega arith) (λ c κs. omega arith) returns)

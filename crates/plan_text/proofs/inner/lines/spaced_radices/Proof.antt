@@ -20,9 +20,6 @@ abbrev μ-loop : tie.MeasureT-loop
 loop-holds : tie.Need-loop-holds Inv-loop μ-loop
 loop-holds c = (search needs, record { text = refl; short = omega arith })
 
-with-radix-requires : tie.Need-with-radix-requires Inv-loop μ-loop
-with-radix-requires c κs = omega arith
-
 loop-again : tie.Need-loop-again Inv-loop μ-loop
 loop-again c =
     let l = c .before .before .loop in
@@ -39,4 +36,5 @@ returns c =
 pub spaced-radices-spec : {M : Type 1} → statement M
 spaced-radices-spec =
     tie.close
-    (tie.spec Inv-loop μ-loop loop-holds (λ c. search needs) with-radix-requires (λ c. search needs) (λ c. search needs) loop-again returns)
+    (tie.spec Inv-loop μ-loop loop-holds (λ c. search needs) (λ c κs. omega arith) (λ c. search needs) (λ c. search needs) loop-again
+    returns)

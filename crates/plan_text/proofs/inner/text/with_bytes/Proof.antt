@@ -16,9 +16,6 @@ Inv-loop s text₀ i₀ text i = (i ≤ length s) × ((text .len ≤ text₀ .le
 abbrev μ-loop : tie.MeasureT-loop
 μ-loop s text₀ i₀ text i = length s - i
 
-with-byte-requires : tie.Need-with-byte-requires Inv-loop μ-loop
-with-byte-requires c κs = omega arith
-
 loop-again : tie.Need-loop-again Inv-loop μ-loop
 loop-again c =
     let l = c .before .before .before .loop in
@@ -35,5 +32,5 @@ returns c =
 pub with-bytes-spec : {M : Type 1} → statement M
 with-bytes-spec =
     tie.close
-    (tie.spec Inv-loop μ-loop (λ c. search needs) (λ c. search needs) with-byte-requires (λ c. search needs) (λ c. search needs) loop-again
-    returns)
+    (tie.spec Inv-loop μ-loop (λ c. search needs) (λ c. search needs) (λ c κs. omega arith) (λ c. search needs) (λ c. search needs)
+    loop-again returns)

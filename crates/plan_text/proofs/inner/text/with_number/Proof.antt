@@ -10,9 +10,6 @@ use Rattle.plan_text.proofs.Growing.{then, said}
 use Rattle.plan_text.proofs.inner.text.with_number.Statement.{statement}
 use Rattle.plan_text.proofs.inner.text.with_number.Tie as tie
 
-with-byte-requires : tie.Need-with-byte-requires
-with-byte-requires c κs = search needs
-
 with-digits-requires : tie.Need-with-digits-requires
 with-digits-requires c κs = omega (arith, decimal-short 19 (c .before .args .n) (omega arith))
 
@@ -25,4 +22,4 @@ returns c =
     (then (c .before .with-byte .ensures) (c .with-digits .ensures))
 
 pub with-number-spec : {M : Type 1} → statement M
-with-number-spec = tie.close (tie.spec with-byte-requires with-digits-requires returns)
+with-number-spec = tie.close (tie.spec (λ c κs. search needs) with-digits-requires returns)

@@ -10,9 +10,6 @@ use Rattle.plan_text.proofs.Growing.{then, said}
 use Rattle.plan_text.proofs.inner.text.with_radix.Statement.{statement}
 use Rattle.plan_text.proofs.inner.text.with_radix.Tie as tie
 
-with-byte-requires : tie.Need-with-byte-requires
-with-byte-requires c κs = search needs
-
 with-digits-requires : tie.Need-with-digits-requires
 with-digits-requires c κs = omega (arith, decimal-short 2 (c .before .args .b) (omega arith))
 
@@ -25,4 +22,4 @@ returns c =
     (then (c .before .with-byte .ensures) (c .with-digits .ensures))
 
 pub with-radix-spec : {M : Type 1} → statement M
-with-radix-spec = tie.close (tie.spec with-byte-requires with-digits-requires returns)
+with-radix-spec = tie.close (tie.spec (λ c κs. search needs) with-digits-requires returns)

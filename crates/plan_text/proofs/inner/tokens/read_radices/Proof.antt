@@ -20,9 +20,6 @@ abbrev μ-loop : tie.MeasureT-loop
 loop-holds : tie.Need-loop-holds Inv-loop μ-loop
 loop-holds c = (search needs, (search needs, (search needs, gives-start _ _ refl refl)))
 
-step-requires : tie.Need-step-requires Inv-loop μ-loop
-step-requires c κs = omega arith
-
 loop-again : tie.Need-loop-again Inv-loop μ-loop
 loop-again c =
     let l = c .before .before .before .loop in
@@ -39,9 +36,6 @@ loop-again c =
         ),
       ),
     )
-
-end-token-requires : tie.Need-end-token-requires Inv-loop μ-loop
-end-token-requires c κs = omega arith
 
 returns : tie.Need-returns Inv-loop μ-loop
 returns c =
@@ -61,5 +55,5 @@ returns c =
 pub read-radices-spec : {M : Type 1} → statement M
 read-radices-spec =
     tie.close
-    (tie.spec Inv-loop μ-loop loop-holds (λ c. search needs) step-requires (λ c. search needs) (λ c. search needs) loop-again
-    end-token-requires returns)
+    (tie.spec Inv-loop μ-loop loop-holds (λ c. search needs) (λ c κs. omega arith) (λ c. search needs) (λ c. search needs) loop-again
+    (λ c κs. omega arith) returns)

@@ -8,19 +8,10 @@ use Rattle.plan_text.specs.declared.inner.tokens.Reading.{Reading}
 use Rattle.plan_text.proofs.inner.tokens.step.Statement.{statement}
 use Rattle.plan_text.proofs.inner.tokens.step.Tie as tie
 
-is-blank-requires : tie.Need-is-blank-requires
-is-blank-requires c κs = search needs
-
-end-token-requires : tie.Need-end-token-requires
-end-token-requires c κs = search needs
-
 returns : tie.Need-returns
 returns c =
     let a = c .before .before .before .args in
     c .end-token .ensures ∙ ap (λ (x : Bool). stepBy x (a .s) (a .b)) (sym (c .before .if1 .taken) ∙ c .before .before .is-blank .ensures)
-
-grow-requires : tie.Need-grow-requires
-grow-requires c κs = search needs
 
 returns-2 : tie.Need-returns-2
 returns-2 c =
@@ -30,4 +21,5 @@ returns-2 c =
 
 pub step-spec : {M : Type 1} → statement M
 step-spec =
-    tie.close (tie.spec is-blank-requires end-token-requires returns grow-requires returns-2)
+    tie.close
+    (tie.spec (λ c κs. search needs) (λ c κs. search needs) returns (λ c κs. search needs) returns-2)

@@ -18,15 +18,6 @@ abbrev μ-loop : tie.MeasureT-loop
 loop-holds : tie.Need-loop-holds Inv-loop μ-loop
 loop-holds c = (c .pre .0, (c .pre .1 .1, (c .pre .1 .0, (sym (one-mul (c .args .base)), gain-start (c .args .target) (c .args .base)))))
 
-mul-reached : tie.Need-mul-reached Inv-loop μ-loop
-mul-reached c = search needs
-
-add-g : tie.Need-add-g Inv-loop μ-loop
-add-g c = search needs
-
-loop-less : tie.Need-loop-less Inv-loop μ-loop
-loop-less c = search needs
-
 loop-again : tie.Need-loop-again Inv-loop μ-loop
 loop-again c =
     let l = c .before .loop in
@@ -52,4 +43,5 @@ returns c =
 
 pub gain-spec : {M : Type 1} → statement M
 gain-spec =
-    tie.close (tie.spec Inv-loop μ-loop loop-holds mul-reached add-g loop-less loop-again returns)
+    tie.close
+    (tie.spec Inv-loop μ-loop loop-holds (λ c. search needs) (λ c. search needs) (λ c. search needs) loop-again returns)

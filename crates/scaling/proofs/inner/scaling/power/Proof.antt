@@ -19,12 +19,6 @@ loop-holds c = (search needs, (c .pre, refl))
 mul-p : tie.Need-mul-p Inv-loop μ-loop
 mul-p c = omega (arith, c .before .loop .inv .1 .1, power-small (c .before .loop .i) (omega arith))
 
-add-i : tie.Need-add-i Inv-loop μ-loop
-add-i c = search needs
-
-loop-less : tie.Need-loop-less Inv-loop μ-loop
-loop-less c = search needs
-
 loop-again : tie.Need-loop-again Inv-loop μ-loop
 loop-again c = (search needs, (c .before .loop .inv .1 .0, ap (λ (n : ℕ). n * 2) (c .before .loop .inv .1 .1) ∙ power-next (c .before .loop .i)))
 
@@ -33,4 +27,5 @@ returns c = let e : c .before .loop .i ≡ c .before .before .args .g = omega ar
 
 pub power-spec : {M : Type 1} → statement M
 power-spec =
-    tie.close (tie.spec Inv-loop μ-loop loop-holds mul-p add-i loop-less loop-again returns)
+    tie.close
+    (tie.spec Inv-loop μ-loop loop-holds mul-p (λ c. search needs) (λ c. search needs) loop-again returns)

@@ -17,12 +17,6 @@ finish-requires c κs =
     let o = c .before .before .before .before .before .before .stages-from in
     (plan-endable (s .args .plan) (s .pre .planned) _ _ (o .kept .1 .1 .1 .1 .0 ∙ s .pre .bins) (s .pre .ends), omega (arith, o .kept .1 .1 .1 .0, s .pre .room))
 
-same-length : tie.Need-same-length
-same-length c = search needs
-
-same-length-2 : tie.Need-same-length-2
-same-length-2 c = search needs
-
 returns : tie.Need-returns
 returns c =
     let s = c .before .before .before .before .before .before .before .before .before .before .before .before .before .before .before .before .before in
@@ -31,4 +25,4 @@ returns c =
     forward-made (a .plan) (a .width) (a .stage-twiddles .now) (a .end-twiddles .now) (a .input .now) (a .scratch .now) (s .pre .samples ∙ plan-twice (a .plan) (s .pre .planned)) (s .pre .room) _ _ _ (o .ensures .1) (o .ensures .0) (c .before .before .finish .ensures)
 
 pub forward-spec : {M : Type 1} → statement M
-forward-spec = tie.close (tie.spec stages-from-requires finish-requires same-length same-length-2 returns)
+forward-spec = tie.close (tie.spec stages-from-requires finish-requires (λ c. search needs) (λ c. search needs) returns)

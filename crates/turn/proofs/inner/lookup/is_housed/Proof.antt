@@ -8,12 +8,9 @@ use Rattle.turn.proofs.inner.lookup.is_housed.Tie as tie
 returns : tie.Need-returns
 returns c = housed-zero (c .before .args .l) (c .if1 .taken)
 
-rem-result : tie.Need-rem-result
-rem-result c = search needs
-
 returns-2 : tie.Need-returns-2
 unfolding housed
 returns-2 c = search needs
 
 pub is-housed-spec : {M : Type 1} → statement M
-is-housed-spec = tie.close (tie.spec returns rem-result returns-2)
+is-housed-spec = tie.close (tie.spec returns (λ c. search needs) returns-2)

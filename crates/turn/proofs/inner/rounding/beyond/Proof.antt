@@ -4,9 +4,6 @@ use borrow.Author.Needs.{needs}
 use Rattle.turn.proofs.inner.rounding.beyond.Statement.{statement}
 use Rattle.turn.proofs.inner.rounding.beyond.Tie as tie
 
-sub-result : tie.Need-sub-result
-sub-result c = search needs
-
 returns : tie.Need-returns
 returns c = some-beyond (c .before .args .c) (search needs) (c .if1 .taken)
 
@@ -14,4 +11,4 @@ returns-2 : tie.Need-returns-2
 returns-2 c = none-beyond (c .before .args .c) (search needs) (c .if1 .left)
 
 pub beyond-spec : {M : Type 1} → statement M
-beyond-spec = tie.close (tie.spec sub-result returns returns-2)
+beyond-spec = tie.close (tie.spec (λ c. search needs) returns returns-2)

@@ -9,12 +9,6 @@ use borrow.Author.Needs.{needs}
 use Rattle.turn.proofs.inner.rounding.closest.Statement.{statement}
 use Rattle.turn.proofs.inner.rounding.closest.Tie as tie
 
-div-q : tie.Need-div-q
-div-q c = search needs
-
-rem-r : tie.Need-rem-r
-rem-r c = search needs
-
 mul-t : tie.Need-mul-t
 mul-t c = omega (arith, mod-lt (c .args .c) (c .pre .0))
 
@@ -37,4 +31,5 @@ returns-3 c =
 
 pub closest-spec : {M : Type 1} → statement M
 closest-spec =
-    tie.close (tie.spec div-q rem-r mul-t returns add-result returns-2 add-result-2 returns-3)
+    tie.close
+    (tie.spec (λ c. search needs) (λ c. search needs) mul-t returns add-result returns-2 add-result-2 returns-3)

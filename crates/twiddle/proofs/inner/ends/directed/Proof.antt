@@ -9,9 +9,6 @@ use Rattle.twiddle.proofs.inner.ends.directed.Tie as tie
 enum-told : tie.Need-enum-told
 enum-told c = search needs
 
-enum-told-2 : tie.Need-enum-told-2
-enum-told-2 c = search needs
-
 returns : tie.Need-returns
 returns c =
     let w = c .before .before .before .before .args .w in
@@ -23,4 +20,4 @@ returns-2 c =
     sym (ap (λ (d : Direction). directedOf d (w .re, w .im)) (c .before .enum-told2 .given .1))
 
 pub directed-spec : {M : Type 1} → statement M
-directed-spec = tie.close (tie.spec enum-told enum-told-2 returns returns-2)
+directed-spec = tie.close (tie.spec enum-told (λ c. search needs) returns returns-2)

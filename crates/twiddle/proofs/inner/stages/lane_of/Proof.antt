@@ -7,23 +7,11 @@ use borrow.Author.Needs.{needs}
 use Rattle.twiddle.proofs.inner.stages.lane_of.Statement.{statement}
 use Rattle.twiddle.proofs.inner.stages.lane_of.Tie as tie
 
-rem-column : tie.Need-rem-column
-rem-column c = search needs
-
-sub-each : tie.Need-sub-each
-sub-each c = search needs
-
-div-t9 : tie.Need-div-t9
-div-t9 c = search needs
-
 mul-t10 : tie.Need-mul-t10
 mul-t10 c = omega (arith, width-small (c .before .args .width) (c .before .args .r) (c .before .pre .narrow) (c .before .pre .eight))
 
 mul-t11 : tie.Need-mul-t11
 mul-t11 c = omega (arith, lane-small (c .before .args .i) (c .before .args .width) (c .before .args .r) (c .before .pre .early) (c .before .pre .narrow) (c .before .pre .eight))
-
-rem-t12 : tie.Need-rem-t12
-rem-t12 c = search needs
 
 add-t13 : tie.Need-add-t13
 add-t13 c = omega (arith, lane-small (c .before .args .i) (c .before .args .width) (c .before .args .r) (c .before .pre .early) (c .before .pre .narrow) (c .before .pre .eight), mod-lt (c .before .args .i) (c .before .pre .lane))
@@ -44,4 +32,5 @@ returns-2 c =
 pub lane-of-spec : {M : Type 1} → statement M
 lane-of-spec =
     tie.close
-    (tie.spec rem-column sub-each div-t9 mul-t10 mul-t11 rem-t12 add-t13 returns mul-t14 returns-2)
+    (tie.spec (λ c. search needs) (λ c. search needs) (λ c. search needs) mul-t10 mul-t11 (λ c. search needs) add-t13 returns mul-t14
+    returns-2)
