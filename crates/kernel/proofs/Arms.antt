@@ -35,6 +35,10 @@ eight {r} k a b c d e = go (radix-is r k)
 pub other : {M r ns : ℕ} {u : Type 0} → Sized M r ns → ((((u × (r ≡ 2 → ⊥)) × (r ≡ 3 → ⊥)) × (r ≡ 4 → ⊥)) × (r ≡ 5 → ⊥)) × (r ≡ 7 → ⊥) → r ≡ 8
 other h k = eight (h .radix) (k .0 .0 .0 .0 .1) (k .0 .0 .0 .1) (k .0 .0 .1) (k .0 .1) (k .1)
 
+-- .. of a later stage
+pub later-other : {M r ns : ℕ} {u : Type 0} → Sized M r ns → 3 ≤ r → (((u × (r ≡ 3 → ⊥)) × (r ≡ 4 → ⊥)) × (r ≡ 5 → ⊥)) × (r ≡ 7 → ⊥) → r ≡ 8
+later-other h l k = eight (h .radix) (λ e. omega arith) (k .0 .0 .0 .1) (k .0 .0 .1) (k .0 .1) (k .1)
+
 pub sized-at : {M r ns : ℕ} (ρ : ℕ) → r ≡ ρ → Sized M r ns → Sized M ρ ns
 sized-at ρ e k = rw e at k
 

@@ -11,7 +11,7 @@ use lib.Ieee.{Float}
 use borrow.Author.Tests.{eq-eqb, ne-eqb}
 use Rattle.counts.specs.Counts.{radix, stride}
 use Rattle.plan.specs.declared.Record.{Record}
-use Rattle.plan.proofs.Bounds.{plan-half, plan-radix, plan-radix-bounds}
+use Rattle.plan.proofs.Bounds.{plan-half, plan-radix, plan-radix-bounds, plan-later}
 use Rattle.counts.proofs.Counts.{count-later, stride-none}
 use Rattle.schedule.specs.Stage.{stage}
 use Rattle.schedule.proofs.Plans.{use-radix, use-stride, found-stride, found-parts, found-whole}
@@ -49,7 +49,7 @@ module _ (p : Record) (j W ns nt nd : ℕ) (k : Workable p j W ns nt nd) where
   pub work-lending : (j ≡ 0 → ⊥) → Lending (p .half / r) r nt 224
   work-lending later =
       record {
-        some = bounds .0;
+        later = plan-later p (k .planned) j later (k .known);
         few = bounds .1;
         small = omega (arith, div-le-self (p .half) r, plan-half p (k .planned));
         lent = omega (arith, k .lent, count-later p (k .planned) j later (k .known));

@@ -53,9 +53,9 @@ pub record Sized (M r ns : ℕ) : Type 0 where
 
 -- ---- twiddles
 
--- M iterations of radix r are lent twiddles in nt words, sixteen iterations of which fit nl words
+-- M iterations of radix r, of a later stage, are lent twiddles in nt words, sixteen iterations of which fit nl words
 pub record Lending (M r nt nl : ℕ) : Type 0 where
-  pub some : 2 ≤ r
+  pub later : 3 ≤ r
   pub few : r ≤ 8
   pub small : M ≤ 4096
   pub lent : 2 * (M * (r - 1)) ≤ nt

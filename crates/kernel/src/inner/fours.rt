@@ -13,7 +13,7 @@ ghost use lib.ListN.{length};
 ghost use Rattle.floats.specs.declared.complex.Complex.{Complex};
 ghost use Rattle.kernel.specs.Parts.{outputOf, Sized, Fetched4, Done, Held, Stored, Evenly, Placed};
 
-// Four iterations from i on at most, to the lanes, each radix written out.
+// Four iterations from i on at most, to the lanes, each radix of a later stage written out.
 pub fn lanes4(
     src: &[f32],
     tw: &[f32],
@@ -26,14 +26,13 @@ pub fn lanes4(
     len: usize,
     r: usize,
 )
-    requires { ⌜ Sized m r (length (now src)) × (i + len ≤ m) × (len ≤ 4) × (2 * (4 * (r - 1)) ≤ length (now tw)) × (length (now ra) ≡ 128) × (length (now ia) ≡ 128) × (length (now rb) ≡ 128) × (length (now ib) ≡ 128) ⌝ }
+    requires { ⌜ Sized m r (length (now src)) × (i + len ≤ m) × (len ≤ 4) × (2 * (4 * (r - 1)) ≤ length (now tw)) × (length (now ra) ≡ 128) × (length (now ia) ≡ 128) × (length (now rb) ≡ 128) × (length (now ib) ≡ 128) × (3 ≤ r) ⌝ }
     ensures { λ _. ⌜ ((lent : ℕ → ℕ → Complex) → Fetched4 i len r lent (now (tw .entry)) → (r < 7 → Held i len r (outputOf false m r (now (src .entry)) lent) (now (ra .exit)) (now (ia .exit))) × (7 ≤ r → Held i len r (outputOf false m r (now (src .entry)) lent) (now (rb .exit)) (now (ib .exit)))) ⌝ }
 {
     let mut j = 0;
     while j < len {
         let k = i + j;
         match r {
-            2 => save(cells(src, tw, k, j, 1, 4, m, 2, false), ra, ia, j, 2),
             3 => save(cells(src, tw, k, j, 1, 4, m, 3, false), ra, ia, j, 3),
             4 => save(cells(src, tw, k, j, 1, 4, m, 4, false), ra, ia, j, 4),
             5 => save(cells(src, tw, k, j, 1, 4, m, 5, false), ra, ia, j, 5),

@@ -34,7 +34,7 @@ pub fn save(c: [Complex; 8], re: &mut [f32], im: &mut [f32], j: usize, r: usize)
     }
 }
 
-// Iterations i to i + len, to the lanes, each radix written out: those below 7 to one pair of arrays, the others to another.
+// Iterations i to i + len, to the lanes, each radix of a later stage written out: those below 7 to one pair of arrays, the others to another.
 pub fn lanes(
     src: &[f32],
     tw: &[f32],
@@ -47,14 +47,13 @@ pub fn lanes(
     len: usize,
     r: usize,
 )
-    requires { ⌜ Sized m r (length (now src)) × (i + len ≤ m) × (len ≤ 16) × (2 * (len * (r - 1)) ≤ length (now tw)) × (length (now ra) ≡ 128) × (length (now ia) ≡ 128) × (length (now rb) ≡ 128) × (length (now ib) ≡ 128) ⌝ }
+    requires { ⌜ Sized m r (length (now src)) × (i + len ≤ m) × (len ≤ 16) × (2 * (len * (r - 1)) ≤ length (now tw)) × (length (now ra) ≡ 128) × (length (now ia) ≡ 128) × (length (now rb) ≡ 128) × (length (now ib) ≡ 128) × (3 ≤ r) ⌝ }
     ensures { λ _. ⌜ ((lent : ℕ → ℕ → Complex) → Fetched i len r lent (now (tw .entry)) → (r < 7 → Held i len r (outputOf false m r (now (src .entry)) lent) (now (ra .exit)) (now (ia .exit))) × (7 ≤ r → Held i len r (outputOf false m r (now (src .entry)) lent) (now (rb .exit)) (now (ib .exit)))) ⌝ }
 {
     let mut j = 0;
     while j < len {
         let k = i + j;
         match r {
-            2 => save(cells(src, tw, k, j, 1, 1, m, 2, false), ra, ia, j, 2),
             3 => save(cells(src, tw, k, j, 2, 1, m, 3, false), ra, ia, j, 3),
             4 => save(cells(src, tw, k, j, 3, 1, m, 4, false), ra, ia, j, 4),
             5 => save(cells(src, tw, k, j, 4, 1, m, 5, false), ra, ia, j, 5),

@@ -59,7 +59,7 @@ fn by_fours(
     r: usize,
     even: usize,
 ) -> Place
-    requires { ⌜ Sized m r (length (now src)) × (2 * (m * (r - 1)) ≤ length (now tw)) × Blocks m s r (length (now dst)) × Batch even × Even even s × (end ≤ m / 4 * 4) × (end % 4 ≡ 0) ⌝ }
+    requires { ⌜ Sized m r (length (now src)) × (2 * (m * (r - 1)) ≤ length (now tw)) × Blocks m s r (length (now dst)) × Batch even × Even even s × (end ≤ m / 4 * 4) × (end % 4 ≡ 0) × (3 ≤ r) ⌝ }
     ensures { λ q. ⌜ Placed even end s r (q .block) (q .col) × Done s r (outputOf false m r (now (src .entry)) (lentAt m r 4 (now (tw .entry)))) (now (dst .exit)) end ⌝ }
 {
     let mut ra = [0.0f32; 128];

@@ -65,7 +65,7 @@ lanes4-requires c κs =
     let n = c .before .before .before .before .before .least in
     let four : n .result ≡ 4 = n .ensures .4 (omega (arith, c .before .before .before .before .before .before .loop-test .taken, l .inv .6, s .pre .6)) in
     let fits : l .i + 4 ≤ a .m = omega (arith, four, n .ensures .0, s .pre .5) in
-    (s .pre .0, omega (arith, four, fits), n .ensures .1, omega (arith, here-room (l .i) 4 (a .m) (a .r) (a .tw .now) fits (s .pre .1), ap length (rest (2 * (l .i * (a .r - 1))) (a .tw .now))), l .inv .2, l .inv .3, l .inv .4, l .inv .5)
+    (s .pre .0, omega (arith, four, fits), n .ensures .1, omega (arith, here-room (l .i) 4 (a .m) (a .r) (a .tw .now) fits (s .pre .1), ap length (rest (2 * (l .i * (a .r - 1))) (a .tw .now))), l .inv .2, l .inv .3, l .inv .4, l .inv .5, s .pre .7)
 
 slice-aggregate-pick : tie.Need-slice-aggregate-pick Inv-loop μ-loop
 slice-aggregate-pick c = sym (c .before .before .before .before .before .lanes4 .kept .1 .1 .0 ∙ c .before .before .before .before .before .before .before .before .before .before .before .before .before .loop .inv .2)

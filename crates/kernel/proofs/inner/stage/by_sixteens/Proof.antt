@@ -57,7 +57,7 @@ lanes-requires c κs =
     let fetch = c .before .before .before .before .before .before .before .fetch in
     let fits : l .i + n .result ≤ a .m = omega (arith, n .ensures .0) in
     let part = lent-part (c .before .before .before .before .before .before .before .before .before .before .before .before .stand .result) (l .i) (n .result) (a .m) (a .r) (a .w) (a .tw .now) _ _ (c .before .before .before .before .before .before .before .before .before .before .before .before .stand .ensures .0) (l .inv .9) fits (n .ensures .1) (s .pre .0 .few) (s .pre .1 .lent) (fetch .kept .1 .0 ∙ l .inv .2) (c .before .before .before .before .lent .ensures) (fetch .ensures) in
-    (s .pre .0, fits, n .ensures .1, part .1, l .inv .3, l .inv .4, l .inv .5, l .inv .6)
+    (s .pre .0, fits, n .ensures .1, part .1, l .inv .3, l .inv .4, l .inv .5, l .inv .6, s .pre .1 .later)
 
 slice-aggregate-pick : tie.Need-slice-aggregate-pick Inv-loop μ-loop
 slice-aggregate-pick c = sym (c .before .before .before .before .before .lanes .kept .1 .1 .0 ∙ c .before .before .before .before .before .before .before .before .before .before .before .before .before .before .before .before .before .loop .inv .3)

@@ -17,7 +17,7 @@ by-fours-requires c κs =
     let e = c .before .before .before .evenly .ensures in
     let n = c .before .before .in-fours .ensures in
     let f = whole-fours (s .args .w) (s .args .m) (n .1) (n .2) in
-    (s .pre .0, s .pre .1 .lent, s .pre .3, e .0, e .1, f .0, f .1)
+    (s .pre .0, s .pre .1 .lent, s .pre .3, e .0, e .1, f .0, f .1, s .pre .1 .later)
 
 -- what is there once the whole lanes of 4 are done
 in-lanes : (c : tie.Joined1) → (length (c .if1 .dst) ≡ length (c .before .before .before .before .before .before .args .dst .now))
