@@ -1,12 +1,6 @@
 -- What the call of power answers over a band of bins that are near exact ones. Assumes nothing.
-use mathlib.Core.Path.{_≡_, refl, sym, ap, subst}
-use mathlib.Core.Bool.{false}
-use mathlib.Core.List.{List}
-use Prim.Native.Nat.{ℕ, zero, suc, _+_, _-_, _*_, _^_, _≤_, _<_}
-use native.Mathlib.Nat.{le-trans, le-of-eq, mul-le-mul-left, mul-le-mul-right}
-use native.Mathlib.Omega.{arith}
-use lib.Dec.{lit≤}
-use lib.ListN.{length}
+use Rattle.sequences.proofs.Basics.{_≡_, refl, sym, ap, subst, ℕ, zero, suc, _+_, _-_, _*_, _^_, _≤_, _<_, le-trans, le-of-eq, mul-le-mul-left}
+use Rattle.sequences.proofs.Basics.{mul-le-mul-right, arith, false, List, lit≤, length}
 use lib.Ieee.{Float, binary32}
 use Rattle.refusal.specs.declared.Verdict.the-variants.{Accepted}
 use Rattle.floats.specs.Complexes.{cell}
@@ -48,7 +42,8 @@ seen-all c X w A Y T a b =
     order₂ X A Y T = omega arith
 
 -- each bin of a band
-quiet-bin : (U G w B P : ℕ) → G * w ≤ B → 2 ^ 24 * U * P ≤ (2 ^ 24 + 3) * w + 2 * (2 ^ 24 * U) → 2 ^ 24 * (G * U) * P ≤ (2 ^ 24 + 3) * B + 2 * (2 ^ 24 * (G * U))
+quiet-bin : (U G w B P : ℕ) → G * w ≤ B → 2 ^ 24 * U * P ≤ (2 ^ 24 + 3) * w + 2 * (2 ^ 24 * U)
+    → 2 ^ 24 * (G * U) * P ≤ (2 ^ 24 + 3) * B + 2 * (2 ^ 24 * (G * U))
 quiet-bin U G w B P a b = omega (arith, mul-le-mul-left G b)
 
 quiet-sum : (n : ℕ) (Ps : ℕ → ℕ) (c X : ℕ) → ((i : ℕ) → i < n → c * Ps i ≤ X) → c * sumN n Ps ≤ n * X
@@ -67,8 +62,10 @@ quiet-all Y B S Q n a b = omega (arith, mul-le-mul-left Y a)
 
 -- ---- a call
 
-module _ (ys : List Float) (h D : ℕ) (exact : ℕ → Gauss) (long : length ys ≡ 2 * (h + 1)) (held : (k : ℕ) → k ≤ h → Held binary32 (cell ys k .re) × Held binary32 (cell ys k .im))
-    (near : (k : ℕ) → k ≤ h → Off D (scaleG (2 ^ 60) (valC (cell ys k))) (exact k)) (lo hi : ℕ) (s : Summed) (sum : Powers ys lo hi s) (taken : s .verdict ≡ Accepted) where
+module _ (ys : List Float) (h D : ℕ) (exact : ℕ → Gauss) (long : length ys ≡ 2 * (h + 1))
+    (held : (k : ℕ) → k ≤ h → Held binary32 (cell ys k .re) × Held binary32 (cell ys k .im))
+    (near : (k : ℕ) → k ≤ h → Off D (scaleG (2 ^ 60) (valC (cell ys k))) (exact k)) (lo hi : ℕ) (s : Summed) (sum : Powers ys lo hi s)
+    (taken : s .verdict ≡ Accepted) where
   band : (lo ≤ hi) × (2 * (hi + 1) ≤ length ys) × (length ys ≤ 8194)
   band = bins-told ys lo hi (powerVerdict ys lo hi) refl (summing ys lo hi s sum taken .0)
 
@@ -90,31 +87,34 @@ module _ (ys : List Float) (h D : ℕ) (exact : ℕ → Gauss) (long : length ys
   bin : (k : ℕ) → k ≤ h → BinPower (cell ys k) (mag binary32 (powerOf (cell ys k)))
   bin k l =
       let o = held k l in
-      bin-power (cell ys k) (o .0) (o .1)
-      (le-trans (mag-most 48 (cell ys k .re) (o .0) (small (2 * k) (omega (arith, long)))) (lit≤ tt))
+      bin-power (cell ys k) (o .0) (o .1) (le-trans (mag-most 48 (cell ys k .re) (o .0) (small (2 * k) (omega (arith, long)))) (lit≤ tt))
       (le-trans (mag-most 48 (cell ys k .im) (o .1) (small (2 * k + 1) (omega (arith, long)))) (lit≤ tt))
 
   all : BandPower ys lo n (sumN n P)
   all = band-power ys lo P n few (λ i l. let b = bin (lo + i) (in-band i l) in (b .has, b .small))
 
   units : IsUnits (all .S) (s .power)
-  units =
-      subst (IsUnits (all .S)) (sym (summing ys lo hi s sum taken .1))
+  units = subst (IsUnits (all .S)) (sym (summing ys lo hi s sum taken .1))
       (record { held = held-is binary32 (powerFrom ys lo n) false (all .S) (all .has); value = val-is binary32 (powerFrom ys lo n) false (all .S) (all .has) })
 
   -- bin k goes C along r, which is at most A in size
   pub seen-in : (k : ℕ) → lo ≤ k → k ≤ hi → (r : Gauss) (A C : ℕ) → Disc A r → C + along (exact k) r .less ≤ along (exact k) r .more
       → (S : ℕ) × IsUnits S (s .power) × (1023 * ((C - A * D) * (C - A * D)) ≤ 1024 * (2 ^ 60 * 2 ^ 60 * 2 ^ 149 * (A * A)) * (S + 2))
   seen-in k lk kh r A C size enough =
-      let at : lo + (k - lo) ≡ k = omega arith in
-      let li : k - lo < n = omega arith in
-      let z = cell ys k in
+      let at : lo + (k - lo) ≡ k = omega arith in let li : k - lo < n = omega arith in let z = cell ys k in
       let own : P (k - lo) ≡ mag binary32 (powerOf z) = ap (λ (m : ℕ). mag binary32 (powerOf (cell ys m))) at in
       let lh : k ≤ h = subst (λ (m : ℕ). m ≤ h) at (in-band (k - lo) li) in
-      let part : 2047 * mag binary32 (powerOf z) ≤ 2048 * all .S = share (mag binary32 (powerOf z)) (sumN n P) (all .S) n (le-trans (le-of-eq (sym own)) (sumN-term n P (k - lo) li)) (le-trans few (lit≤ tt)) (all .under) in
+      let part : 2047 * mag binary32 (powerOf z) ≤ 2048 * all .S =
+      share (mag binary32 (powerOf z)) (sumN n P) (all .S) n (le-trans (le-of-eq (sym own)) (sumN-term n P (k - lo) li)) (le-trans few (lit≤ tt))
+      (all .under) in
       let c : (C - A * D) * (C - A * D) ≤ 2 ^ 60 * 2 ^ 60 * power (valC z) * (A * A) =
-      le-trans (seen D A C (scaleG (2 ^ 60) (valC z)) (exact k) r (near k lh) size enough) (le-of-eq (ap (λ (m : ℕ). m * (A * A)) (power-scale (2 ^ 60) (valC z)))) in
-      (all .S, units, seen-all ((C - A * D) * (C - A * D)) (2 ^ 60 * 2 ^ 60) (power (valC z)) (A * A) (2 ^ 149) (all .S + 2) c (seen-power (2 ^ 149) (power (valC z)) (mag binary32 (powerOf z)) (all .S) part (bin k lh .under)))
+      le-trans (seen D A C (scaleG (2 ^ 60) (valC z)) (exact k) r (near k lh) size enough)
+      (le-of-eq (ap (λ (m : ℕ). m * (A * A)) (power-scale (2 ^ 60) (valC z)))) in (
+        all .S,
+        units,
+        seen-all ((C - A * D) * (C - A * D)) (2 ^ 60 * 2 ^ 60) (power (valC z)) (A * A) (2 ^ 149)
+            (all .S + 2) c (seen-power (2 ^ 149) (power (valC z)) (mag binary32 (powerOf z)) (all .S) part (bin k lh .under)),
+      )
 
   -- every bin of the band is at most M in size
   pub quiet-in : (M : ℕ) → ((k : ℕ) → lo ≤ k → k ≤ hi → Disc M (exact k))
@@ -123,10 +123,13 @@ module _ (ys : List Float) (h D : ℕ) (exact : ℕ → Gauss) (long : length ys
       let one : (i : ℕ) → i < n → 2 ^ 24 * (2 ^ 60 * 2 ^ 60 * 2 ^ 149) * P i ≤ (2 ^ 24 + 3) * ((D + M) * (D + M)) + 2 * (2 ^ 24 * (2 ^ 60 * 2 ^ 60 * 2 ^ 149)) =
       λ i l.
       let z = cell ys (lo + i) in
-      let d : Disc (D + M) (scaleG (2 ^ 60) (valC z)) = disc-near D M (scaleG (2 ^ 60) (valC z)) (exact (lo + i)) (near (lo + i) (in-band i l)) (each (lo + i) (omega arith) (omega arith)) in
+      let d : Disc (D + M) (scaleG (2 ^ 60) (valC z)) = disc-near D M (scaleG (2 ^ 60) (valC z)) (exact (lo + i)) (near (lo + i) (in-band i l))
+      (each (lo + i) (omega arith) (omega arith)) in
       let v : 2 ^ 60 * 2 ^ 60 * power (valC z) ≤ (D + M) * (D + M) = le-trans (le-of-eq (sym (power-scale (2 ^ 60) (valC z)))) (d .inside) in
       quiet-bin (2 ^ 149) (2 ^ 60 * 2 ^ 60) (power (valC z)) ((D + M) * (D + M)) (P i) v (bin (lo + i) (in-band i l) .above) in (
         all .S,
         units,
-        quiet-all (2 ^ 60 * 2 ^ 60 * 2 ^ 149) ((D + M) * (D + M)) (all .S) (sumN n P) n (quiet-total n (all .S) (sumN n P) (le-trans few (lit≤ tt)) (all .above)) (quiet-sum n P (2 ^ 24 * (2 ^ 60 * 2 ^ 60 * 2 ^ 149)) ((2 ^ 24 + 3) * ((D + M) * (D + M)) + 2 * (2 ^ 24 * (2 ^ 60 * 2 ^ 60 * 2 ^ 149))) one),
+        quiet-all (2 ^ 60 * 2 ^ 60 * 2 ^ 149) ((D + M) * (D + M)) (all .S)
+            (sumN n P) n (quiet-total n (all .S) (sumN n P) (le-trans few (lit≤ tt)) (all .above))
+            (quiet-sum n P (2 ^ 24 * (2 ^ 60 * 2 ^ 60 * 2 ^ 149)) ((2 ^ 24 + 3) * ((D + M) * (D + M)) + 2 * (2 ^ 24 * (2 ^ 60 * 2 ^ 60 * 2 ^ 149))) one),
       )

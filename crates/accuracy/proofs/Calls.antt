@@ -1,12 +1,7 @@
 -- The distances of accepted calls, for numbers of a size. Assumes nothing.
-use mathlib.Core.Path.{_≡_, refl, sym, ap, _∙_, subst}
-use mathlib.Core.List.{List, [], _∷_}
-use Prim.Native.Nat.{ℕ, zero, suc, _+_, _-_, _*_, _^_, _≤_, _<_, zero-le}
-use native.Mathlib.Nat.{le-trans, le-of-eq, le-of-lt, mul-le-mul, mul-le-mul-left, mul-le-mul-right, le-of-mul-le-mul-right}
-use native.Mathlib.Omega.{arith}
-use lib.Dec.{T, lit≤, lit<}
-use lib.Pow.{pow-add, pow-mono}
-use lib.ListN.{length, getD}
+use Rattle.sequences.proofs.Basics.{_≡_, refl, sym, ap, _∙_, subst, ℕ, zero, suc, _+_, _-_, _*_, _^_, _≤_, _<_, zero-le, le-trans, le-of-eq, le-of-lt}
+use Rattle.sequences.proofs.Basics.{mul-le-mul, mul-le-mul-left, mul-le-mul-right, le-of-mul-le-mul-right, arith, List, [], _∷_, T, lit≤, lit<, length, getD}
+use Rattle.sequences.proofs.Basics.{pow-add, pow-mono}
 use lib.Ieee.{Float, nan, inf, fin, binary32, fits, down}
 use lib.Ieee.Bits.{ofBits-fits}
 use lib.Ieee.Fits.{down-pos}
@@ -36,9 +31,9 @@ word-held q k x t v = fits-held binary32 x t (most-finite q k x v)
 pub mag-most : (k : ℕ) (x : Float) → Held binary32 x → AtMost 1 k x → mag binary32 x ≤ 2 * 2 ^ (148 + k)
 mag-most k nan h v = absurd v
 mag-most k (inf s) h v = absurd v
-mag-most k (fin s m e) h v =
-    le-of-mul-le-mul-right {m = mag binary32 (fin s m e)}
-    (le-trans (le-of-eq (sym h)) (le-trans (mul-le-mul-right (2 ^ 149) v) (le-of-eq (regroup (2 ^ k) (down e) (2 ^ 148) (2 ^ (148 + k)) (2 ^ 149) (pow-add 2 148 k) refl))))
+mag-most k (fin s m e) h v = le-of-mul-le-mul-right {m = mag binary32 (fin s m e)}
+    (le-trans (le-of-eq (sym h)) (le-trans (mul-le-mul-right (2 ^ 149) v)
+    (le-of-eq (regroup (2 ^ k) (down e) (2 ^ 148) (2 ^ (148 + k)) (2 ^ 149) (pow-add 2 148 k) refl))))
     (down-pos e)
   where
     regroup : (u d t w z : ℕ) → w ≡ t * u → z ≡ 2 * t → 1 * u * d * z ≡ 2 * w * d
@@ -63,11 +58,15 @@ bits-f32s (b ∷ bs) (x ∷ xs) h zero l = subst (λ (y : Float). T (fits binary
 bits-f32s (b ∷ bs) (x ∷ xs) h (suc i) l = bits-f32s bs xs (h .1) i (omega arith)
 
 -- a pair of them, in the plane
-pub pair-disc : (j : ℕ) (x y : Float) → mag binary32 x ≤ 2 * 2 ^ (40 + j) → mag binary32 y ≤ 2 * 2 ^ (40 + j) → Disc (2 ^ 20 * (3 * 2 ^ (20 + j))) (record { re = val binary32 x; im = val binary32 y })
+pub pair-disc : (j : ℕ) (x y : Float) → mag binary32 x ≤ 2 * 2 ^ (40 + j) → mag binary32 y ≤ 2 * 2 ^ (40 + j)
+    → Disc (2 ^ 20 * (3 * 2 ^ (20 + j))) (record { re = val binary32 x; im = val binary32 y })
 pair-disc j x y a b =
     let e : 2 ^ 20 * (3 * 2 ^ (20 + j)) ≡ 3 * 2 ^ (40 + j) = same j in
     subst (λ (n : ℕ). Disc n (record { re = val binary32 x; im = val binary32 y })) (sym e)
-    (record { inside = square (absZ (val binary32 x)) (absZ (val binary32 y)) (2 ^ (40 + j)) (le-trans (le-of-eq (sym (mag-abs binary32 x))) a) (le-trans (le-of-eq (sym (mag-abs binary32 y))) b) })
+    (record {
+      inside = square (absZ (val binary32 x)) (absZ (val binary32 y)) (2 ^ (40 + j)) (le-trans (le-of-eq (sym (mag-abs binary32 x))) a)
+          (le-trans (le-of-eq (sym (mag-abs binary32 y))) b);
+    })
   where
     same : (j : ℕ) → 2 ^ 20 * (3 * 2 ^ (20 + j)) ≡ 3 * 2 ^ (40 + j)
     same j =

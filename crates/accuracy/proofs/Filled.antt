@@ -1,11 +1,5 @@
 -- What an accepted filling tells: a plan whose length divides the circle, with few small radices. Assumes nothing.
-use mathlib.Core.Path.{_≡_, ap, _∙_, subst}
-use mathlib.Core.Bool.{true}
-use Prim.Native.Nat.{ℕ, _*_, _/_, _≤_, _<_}
-use native.Mathlib.Nat.{le-trans, le-of-eq, mul-comm}
-use native.Mathlib.Omega.{arith}
-use lib.Dec.{lit≤}
-use lib.ListN.{length}
+use Rattle.sequences.proofs.Basics.{_≡_, ap, _∙_, subst, ℕ, _*_, _/_, _≤_, _<_, le-trans, le-of-eq, mul-comm, arith, true, lit≤, length}
 use Rattle.refusal.specs.declared.Verdict.{Verdict}
 use Rattle.refusal.specs.declared.Verdict.the-variants.{Accepted}
 use Rattle.counts.specs.Counts.{radix}
@@ -38,8 +32,7 @@ pub record Circled (p : Record) : Type 0 where
 
 pub circled : (dir : Direction) (p : Record) (W : ℕ) (lent : Slices) (v : Verdict) (tw : Slices) → Fills dir p W lent v tw → v ≡ Accepted → Circled p
 circled dir p W lent v tw fills filled =
-    let t = taken p W (length (lent .0)) (length (lent .1)) v (fills .answer) filled in
-    let h = p .half in
+    let t = taken p W (length (lent .0)) (length (lent .1)) v (fills .answer) filled in let h = p .half in
     let d = 6720 / (2 * p .half) in
     let parts : d * (2 * h) ≡ 6720 = subst (λ (n : ℕ). 6720 / n * n ≡ 6720) (plan-twice p (t .planned)) (housed-parts (p .n) (t .housed)) in
     let circle : d * (h * 2) ≡ 6720 = ap (λ (n : ℕ). d * n) (mul-comm h 2) ∙ parts in
@@ -50,7 +43,8 @@ circled dir p W lent v tw fills filled =
       circle = circle;
       pairs = order d h ∙ circle;
       turn-at = λ q.
-          ap (λ (n : ℕ). house (indexOf (part q n))) (plan-twice p (t .planned)) ∙ index-at q (2 * h) d (positive h (plan-some p (t .planned))) parts ∙ ap house (mul-comm q d);
+          ap (λ (n : ℕ). house (indexOf (part q n))) (plan-twice p (t .planned)) ∙ index-at q (2 * h) d (positive h (plan-some p (t .planned))) parts
+          ∙ ap house (mul-comm q d);
       eight = λ j l. use-radix-few p (t .planned) j (subst (λ (n : ℕ). j < n) (use-length p (t .planned)) l);
       short = le-trans (le-of-eq (use-length p (t .planned))) (le-trans (plan-order p (t .planned) .few) (lit≤ tt));
     }

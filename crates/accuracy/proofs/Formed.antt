@@ -1,9 +1,6 @@
 -- Two numbers put together as the steps at the ends do it, exactly, and how far that is from 0: a root of 2 is saved by taking sum and difference
 -- together. Assumes nothing.
-use mathlib.Core.Path.{_≡_, ap, ap₂, _∙_}
-use Prim.Native.Nat.{ℕ, _+_, _*_, _≤_}
-use native.Mathlib.Nat.{le-refl, le-trans, le-of-eq, mul-le-mul-left}
-use native.Mathlib.Omega.{arith}
+use Rattle.sequences.proofs.Basics.{_≡_, ap, ap₂, _∙_, ℕ, _+_, _*_, _≤_, le-refl, le-trans, le-of-eq, mul-le-mul-left, arith}
 use Rattle.accuracy.specs.Gauss.{Gauss, plusG, minusG, timesG, scaleG, Disc, Off}
 use Rattle.accuracy.specs.Value.{Signed, NearZ, negZ, plusZ, minusZ, absZ}
 use Rattle.accuracy.proofs.Circle.{quarter}
@@ -34,29 +31,31 @@ norm-scale k z = ap₂ (λ (x y : ℕ). x * x + y * y) (abs-scale k (z .re)) (ab
 
 pub formed-disc : (G E ρ : ℕ) (a c w : Gauss) → 8 * ((G + 1) * (G + 1) * (E * E)) ≤ ρ * ρ → Disc E a → Disc E c → Disc (G + 1) w → Disc ρ (formed G a c w)
 formed-disc G E ρ a c w room p q d =
-    let u = plusG a (conjG c) in
-    let v = minusG a (conjG c) in
-    let x = scaleG G u in
-    let y = timesG (quarter v) w in
+    let u = plusG a (conjG c) in let v = minusG a (conjG c) in let x = scaleG G u in let y = timesG (quarter v) w in
     record {
       inside =
-          plain (norm u) (norm v) (norm x) (norm y) (norm (plusG x y)) (norm (minusG x y)) (norm a) (norm (conjG c)) (p .inside) (le-trans (le-of-eq (norm-conj c)) (q .inside)) (norm-both a (conjG c)) (norm-scale G u)
-          (le-trans (norm-times (norm (quarter v)) ((G + 1) * (G + 1)) (quarter v) w (le-refl _) (d .inside)) (le-of-eq (ap (λ (n : ℕ). n * ((G + 1) * (G + 1))) (norm-quarter v))))
+          plain (norm u) (norm v) (norm x) (norm y) (norm (plusG x y)) (norm (minusG x y)) (norm a) (norm (conjG c)) (p .inside)
+          (le-trans (le-of-eq (norm-conj c)) (q .inside)) (norm-both a (conjG c)) (norm-scale G u)
+          (le-trans (norm-times (norm (quarter v)) ((G + 1) * (G + 1)) (quarter v) w (le-refl _) (d .inside))
+          (le-of-eq (ap (λ (n : ℕ). n * ((G + 1) * (G + 1))) (norm-quarter v))))
           (norm-both x y);
     }
   where
-    plain : (U K X Y Z T A C : ℕ) → A ≤ E * E → C ≤ E * E → U + K ≡ 2 * A + 2 * C → X ≡ G * G * U → Y ≤ K * ((G + 1) * (G + 1)) → Z + T ≡ 2 * X + 2 * Y → Z ≤ ρ * ρ
+    plain : (U K X Y Z T A C : ℕ) → A ≤ E * E → C ≤ E * E → U + K ≡ 2 * A + 2 * C → X ≡ G * G * U → Y ≤ K * ((G + 1) * (G + 1)) → Z + T ≡ 2 * X + 2 * Y
+        → Z ≤ ρ * ρ
     plain U K X Y Z T A C i j k l m n =
         let s : U + K ≤ 4 * (E * E) = omega arith in
         le-trans (between U K X Y Z T l m n (mul-le-mul-left ((G + 1) * (G + 1)) s)) room
       where
-        between : (U K X Y Z T : ℕ) → X ≡ G * G * U → Y ≤ K * ((G + 1) * (G + 1)) → Z + T ≡ 2 * X + 2 * Y → (G + 1) * (G + 1) * (U + K) ≤ (G + 1) * (G + 1) * (4 * (E * E)) → Z ≤ 8 * ((G + 1) * (G + 1) * (E * E))
+        between : (U K X Y Z T : ℕ) → X ≡ G * G * U → Y ≤ K * ((G + 1) * (G + 1)) → Z + T ≡ 2 * X + 2 * Y
+            → (G + 1) * (G + 1) * (U + K) ≤ (G + 1) * (G + 1) * (4 * (E * E)) → Z ≤ 8 * ((G + 1) * (G + 1) * (E * E))
         between U K X Y Z T l m n o = omega arith
 
 pub same-turned : (z z' t : Gauss) → Same z z' → Same (timesG z t) (timesG z' t)
 same-turned z z' t e =
     let self : (x : Signed) → NearZ 0 x x = λ x. omega arith in
-    together _ _ _ _ _ _ _ _ (same-times (z .re) (z' .re) (t .re) (t .re) (e .0) (self (t .re))) (same-times (z .im) (z' .im) (t .im) (t .im) (e .1) (self (t .im)))
+    together _ _ _ _ _ _ _ _ (same-times (z .re) (z' .re) (t .re) (t .re) (e .0) (self (t .re)))
+    (same-times (z .im) (z' .im) (t .im) (t .im) (e .1) (self (t .im)))
     (same-times (z .re) (z' .re) (t .im) (t .im) (e .0) (self (t .im))) (same-times (z .im) (z' .im) (t .re) (t .re) (e .1) (self (t .re)))
   where
     together : (a b c d a' b' c' d' : Signed) → NearZ 0 a a' → NearZ 0 b b' → NearZ 0 c c' → NearZ 0 d d'
@@ -64,19 +63,23 @@ same-turned z z' t e =
     together a b c d a' b' c' d' p q r s = (omega arith, omega arith)
 
 -- the same of a distance
-pub formed-off : (G E ρ : ℕ) (a a' c c' w : Gauss) → 8 * ((G + 1) * (G + 1) * (E * E)) ≤ ρ * ρ → Off E a a' → Off E c c' → Disc (G + 1) w → Off ρ (formed G a c w) (formed G a' c' w)
+pub formed-off : (G E ρ : ℕ) (a a' c c' w : Gauss) → 8 * ((G + 1) * (G + 1) * (E * E)) ≤ ρ * ρ → Off E a a' → Off E c c' → Disc (G + 1) w
+    → Off ρ (formed G a c w) (formed G a' c' w)
 formed-off G E ρ a a' c c' w room p q d =
-    let s = quarter (minusG a (conjG c)) in
-    let s' = quarter (minusG a' (conjG c')) in
+    let s = quarter (minusG a (conjG c)) in let s' = quarter (minusG a' (conjG c')) in
     let r = quarter (minusG (minusG a a') (conjG (minusG c c'))) in
-    let e = join (scaleG G (plusG (minusG a a') (conjG (minusG c c')))) (scaleG G (plusG a (conjG c))) (scaleG G (plusG a' (conjG c'))) (timesG r w) (timesG (minusG s s') w) (timesG s w) (timesG s' w)
+    let e = join (scaleG G (plusG (minusG a a') (conjG (minusG c c')))) (scaleG G (plusG a (conjG c))) (scaleG G (plusG a' (conjG c'))) (timesG r w)
+    (timesG (minusG s s') w) (timesG s w) (timesG s' w)
     (summed G a a' c c') (same-turned r (minusG s s') w (apart a a' c c')) (product s s' w) in
-    disc-same ρ (formed G (minusG a a') (minusG c c') w) (minusG (formed G a c w) (formed G a' c' w)) (e .0) (e .1) (formed-disc G E ρ (minusG a a') (minusG c c') w room p q d)
+    disc-same ρ (formed G (minusG a a') (minusG c c') w) (minusG (formed G a c w) (formed G a' c' w)) (e .0) (e .1)
+    (formed-disc G E ρ (minusG a a') (minusG c c') w room p q d)
   where
-    summed : (G : ℕ) (a a' c c' : Gauss) → Same (scaleG G (plusG (minusG a a') (conjG (minusG c c')))) (minusG (scaleG G (plusG a (conjG c))) (scaleG G (plusG a' (conjG c'))))
+    summed : (G : ℕ) (a a' c c' : Gauss) → Same (scaleG G (plusG (minusG a a') (conjG (minusG c c'))))
+        (minusG (scaleG G (plusG a (conjG c))) (scaleG G (plusG a' (conjG c'))))
     summed G a a' c c' = (omega arith, omega arith)
 
-    apart : (a a' c c' : Gauss) → Same (quarter (minusG (minusG a a') (conjG (minusG c c')))) (minusG (quarter (minusG a (conjG c))) (quarter (minusG a' (conjG c'))))
+    apart : (a a' c c' : Gauss) → Same (quarter (minusG (minusG a a') (conjG (minusG c c'))))
+        (minusG (quarter (minusG a (conjG c))) (quarter (minusG a' (conjG c'))))
     apart a a' c c' = (omega arith, omega arith)
 
     product : (s s' w : Gauss) → Same (timesG (minusG s s') w) (minusG (timesG s w) (timesG s' w))

@@ -1,10 +1,6 @@
 -- What an accepted forward call leaves, with the twiddles of an accepted filling, bin by bin against the spectrum. Assumes nothing.
-use mathlib.Core.Path.{_≡_, refl, sym, ap, ap₂, _∙_, subst}
-use mathlib.Core.List.{List}
-use Prim.Native.Nat.{ℕ, zero, suc, _+_, _-_, _*_, _/_, _^_, _≤_, _<_}
-use native.Mathlib.Nat.{le-refl, le-trans, mul-le-mul-right}
-use native.Mathlib.Omega.{arith}
-use lib.ListN.{length, getD}
+use Rattle.sequences.proofs.Basics.{_≡_, refl, sym, ap, ap₂, _∙_, subst, ℕ, zero, suc, _+_, _-_, _*_, _/_, _^_, _≤_, _<_, le-refl, le-trans, mul-le-mul-right}
+use Rattle.sequences.proofs.Basics.{arith, List, length, getD}
 use lib.Ieee.{Float, nan, binary32, mul, ofBits}
 use Rattle.refusal.specs.declared.Verdict.{Verdict}
 use Rattle.refusal.specs.declared.Verdict.the-variants.{Accepted}
@@ -83,9 +79,9 @@ module _ (p : Record) (W : ℕ) (lent : Slices) (v : Verdict) (tw : Slices) (fil
 
   made : after .0 ≡ postprocess-fft h (tw .1) (flat ran)
   unfolding forwardOf forwardRun
-  made =
-      ap (λ (s : Slices). s .0) (settled _ _ _ _ _ f (sym (f .answer) ∙ e))
-      ∙ ap (postprocess-fft h (tw .1)) (filled-run Forward p W lent v tw fills filled xs (padOf h (before .1)) samples-long (pad-length h (before .1) (asked .room)) ∙ ap flat (sym (run-housed h rs (p .count) (pairsOf xs))))
+  made = ap (λ (s : Slices). s .0) (settled _ _ _ _ _ f (sym (f .answer) ∙ e))
+      ∙ ap (postprocess-fft h (tw .1)) (filled-run Forward p W lent v tw fills filled xs (padOf h (before .1)) samples-long
+      (pad-length h (before .1) (asked .room)) ∙ ap flat (sym (run-housed h rs (p .count) (pairsOf xs))))
 
   pub bins-long : length (after .0) ≡ 2 * (p .half + 1)
   bins-long = ap length made ∙ length-ended fftSteps h (tw .1) (flat ran)
@@ -95,8 +91,7 @@ module _ (p : Record) (W : ℕ) (lent : Slices) (v : Verdict) (tw : Slices) (fil
   bin-is k l = ap (λ (ys : List Float). cell ys k) made ∙ cell-tabulated (h + 1) (endCell fftSteps h (cell (flat ran)) (endLent (tw .1))) k (omega arith)
 
   ran-cell : (k : ℕ) → k < h → cell (flat ran) k ≡ getD (run plain (floats (turning rs)) h rs (length rs) (pairsOf xs)) k blank
-  ran-cell k l =
-      cell-flat ran k (rw (run-long (turning rs) h rs (p .count) (pairsOf xs) (length-paired h xs samples-long)) l)
+  ran-cell k l = cell-flat ran k (rw (run-long (turning rs) h rs (p .count) (pairsOf xs) (length-paired h xs samples-long)) l)
       ∙ ap (λ (n : ℕ). getD (run plain (floats (turning rs)) h rs n (pairsOf xs)) k blank) (sym (use-length p (told .planned)))
 
   -- ---- the end twiddles
@@ -108,14 +103,14 @@ module _ (p : Record) (W : ℕ) (lent : Slices) (v : Verdict) (tw : Slices) (fil
       let at = filled-end Forward p W lent v tw fills filled nan q pq many in
       let words = wordsOf (turnOf (part q (p .n))) in
       let is : endLent (tw .1) q ≡ cx (mul binary32 half (words .0)) (mul binary32 half (words .1)) = ap₂ cx (at .first) (at .second) in
-      subst (HalfClose (house (d * q))) (sym is) (subst (λ (w : Gauss). HalfClose w (cx (mul binary32 half (words .0)) (mul binary32 half (words .1)))) (told .turn-at q) (words-halved (part q (p .n))))
+      subst (HalfClose (house (d * q))) (sym is) (subst (λ (w : Gauss). HalfClose w (cx (mul binary32 half (words .0)) (mul binary32 half (words .1))))
+      (told .turn-at q) (words-halved (part q (p .n))))
 
   -- ---- the samples
 
   pair-is : (u : ℕ) → u < h → valC (getD (pairsOf xs) u blank) ≡ paired (sample xs) u
   pair-is u l =
-      let e₀ : 2 * u ≡ u * 2 + 0 = omega arith in
-      let e₁ : 2 * u + 1 ≡ u * 2 + 1 = omega arith in
+      let e₀ : 2 * u ≡ u * 2 + 0 = omega arith in let e₁ : 2 * u + 1 ≡ u * 2 + 1 = omega arith in
       ap valC (get-paired xs u (omega (arith, samples-long))) ∙ ap₂ (λ (i j : ℕ). record { re = sample xs i; im = sample xs j }) e₀ e₁
 
   module _ (held : (i : ℕ) → i < length xs → Held binary32 (getD xs i nan)) (a : ℕ → ℕ) (sized : (u : ℕ) → u < h → Disc (2 ^ 20 * a u) (paired (sample xs) u))
@@ -123,7 +118,8 @@ module _ (p : Record) (W : ℕ) (lent : Slices) (v : Verdict) (tw : Slices) (fil
     pair-held : (u : ℕ) → u < h → Held binary32 (getD (pairsOf xs) u blank .re) × Held binary32 (getD (pairsOf xs) u blank .im)
     pair-held u l =
         let is = get-paired xs u (omega (arith, samples-long)) in
-        subst (λ (z : Complex). Held binary32 (z .re) × Held binary32 (z .im)) (sym is) (held (2 * u) (omega (arith, samples-long)), held (2 * u + 1) (omega (arith, samples-long)))
+        subst (λ (z : Complex). Held binary32 (z .re) × Held binary32 (z .im)) (sym is)
+        (held (2 * u) (omega (arith, samples-long)), held (2 * u + 1) (omega (arith, samples-long)))
 
     fine : error rs (length rs) ≤ 2 ^ 66
     fine = le-trans (error-small rs (told .eight) (length rs) (le-refl (length rs))) (mul-le-mul-right (2 ^ 60) (told .short))
@@ -132,20 +128,23 @@ module _ (p : Record) (W : ℕ) (lent : Slices) (v : Verdict) (tw : Slices) (fil
     sized' u l = subst (Disc (2 ^ 20 * a u)) (sym (pair-is u l)) (sized u l)
 
     ran-held : (k : ℕ) → k < h → Held binary32 (cell (flat ran) k .re) × Held binary32 (cell (flat ran) k .im)
-    ran-held k l =
-        subst (λ (z : Complex). Held binary32 (z .re) × Held binary32 (z .im)) (sym (ran-cell k l))
-        (run-held (d * 2) h (told .pairs) rs (use-product p (told .planned)) (told .some) (told .eight) (told .short) (pairsOf xs) pair-held a sized' least total k l)
+    ran-held k l = subst (λ (z : Complex). Held binary32 (z .re) × Held binary32 (z .im)) (sym (ran-cell k l))
+        (run-held (d * 2) h (told .pairs) rs (use-product p (told .planned)) (told .some) (told .eight) (told .short)
+        (pairsOf xs) pair-held a sized' least total k l)
 
     ran-off : (k : ℕ) → k < h → Off (error rs (length rs) * sumN h a) (scaleG (2 ^ 60) (valC (cell (flat ran) k))) (dft house (d * 2) h (paired (sample xs)) k)
     unfolding dft
-    ran-off k l =
-        off-eq _ _ _ _ _ (ap (λ (z : Complex). scaleG (2 ^ 60) (valC z)) (sym (ran-cell k l)))
+    ran-off k l = off-eq _ _ _ _ _ (ap (λ (z : Complex). scaleG (2 ^ 60) (valC z)) (sym (ran-cell k l)))
         (sum-equal h _ _ (λ u m. ap (λ (z : Gauss). timesG z (house (d * 2 * (u * k)))) (pair-is u m)))
-        (run-off (d * 2) h (told .pairs) rs (use-product p (told .planned)) (told .some) (told .eight) (told .short) (pairsOf xs) pair-held a sized' least total k l)
+        (run-off (d * 2) h (told .pairs) rs (use-product p (told .planned)) (told .some) (told .eight) (told .short)
+        (pairsOf xs) pair-held a sized' least total k l)
 
     -- every bin that the call leaves, for each weight
-    pub bin-near : (F : ℕ) → 2 * ((2 ^ 60 + 1) * (2 ^ 60 + 1) * (error rs (length rs) * error rs (length rs))) ≤ 2 ^ 60 * 2 ^ 60 * (F * F) → (k : ℕ) → k ≤ h → Held binary32 (cell (after .0) k .re) × Held binary32 (cell (after .0) k .im)
+    pub bin-near : (F : ℕ) → 2 * ((2 ^ 60 + 1) * (2 ^ 60 + 1) * (error rs (length rs) * error rs (length rs))) ≤ 2 ^ 60 * 2 ^ 60 * (F * F) → (k : ℕ) → k ≤ h
+        → Held binary32 (cell (after .0) k .re) × Held binary32 (cell (after .0) k .im)
         × Off ((F + 13 * 2 ^ 56 + 2 ^ 50) * sumN h a) (scaleG (2 ^ 60) (valC (cell (after .0) k))) (spectrum house d h (sample xs) k)
     bin-near F root k l =
-        subst (λ (z : Complex). Held binary32 (z .re) × Held binary32 (z .im) × Off ((F + 13 * 2 ^ 56 + 2 ^ 50) * sumN h a) (scaleG (2 ^ 60) (valC z)) (spectrum house d h (sample xs) k)) (sym (bin-is k l))
-        (bins-near d h (told .circle) (told .some) (error rs (length rs)) F fine root (sample xs) a sized (sumN-least h a (2 ^ 20) (told .some) least) total (cell (flat ran)) (endLent (tw .1)) ran-held ran-off end-close k l)
+        subst (λ (z : Complex). Held binary32 (z .re) × Held binary32 (z .im)
+        × Off ((F + 13 * 2 ^ 56 + 2 ^ 50) * sumN h a) (scaleG (2 ^ 60) (valC z)) (spectrum house d h (sample xs) k)) (sym (bin-is k l))
+        (bins-near d h (told .circle) (told .some) (error rs (length rs)) F fine root (sample xs) a sized (sumN-least h a (2 ^ 20) (told .some) least) total
+        (cell (flat ran)) (endLent (tw .1)) ran-held ran-off end-close k l)

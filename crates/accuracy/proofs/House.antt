@@ -1,11 +1,6 @@
 -- The house table's turns before rounding, and that they keep the rules of a circle. Assumes nothing.
-use mathlib.Core.Path.{_≡_, refl, sym, ap, ap₂, _∙_, subst}
-use mathlib.Core.Logic.{dite}
-use Prim.Native.Nat.{ℕ, zero, suc, _+_, _-_, _*_, _/_, _%_, _^_, _≤_, _<_}
-use native.Mathlib.Nat.{mod-lt, zero-lt-suc}
-use native.Mathlib.Decide.{decLe}
-use native.Mathlib.Omega.{arith}
-use lib.Dec.{lit≤}
+use Rattle.sequences.proofs.Basics.{_≡_, refl, sym, ap, ap₂, _∙_, subst, ℕ, zero, suc, _+_, _-_, _*_, _/_, _%_, _^_, _≤_, _<_, mod-lt, zero-lt-suc, arith}
+use Rattle.sequences.proofs.Basics.{decLe, dite, lit≤}
 use Rattle.turn.specs.Rule.{cosine, sine}
 use Rattle.turn.specs.Turns.{entryOf, plain, exchanged, quartersOn}
 use Rattle.turn.specs.declared.inner.lookup.Entry.{Entry}
@@ -64,13 +59,13 @@ spun-at t = dite (decLe (t % 6720 % 1680) 840) low high
     join = ap₂ (λ (q b : ℕ). spin q (rest cosine sine b)) same-quarter same-rest
 
     low : t % 6720 % 1680 ≤ 840 → at (entryOf (t % 6720)) ≡ spin (t / 1680 % 4) (rest cosine sine (t % 1680))
-    low h =
-        ap at (sym (entry-plain (t % 6720) h)) ∙ on-quarters (t % 6720 / 1680) (cosine (t % 6720 % 1680)) (sine (t % 6720 % 1680)) four
+    low h = ap at (sym (entry-plain (t % 6720) h)) ∙ on-quarters (t % 6720 / 1680) (cosine (t % 6720 % 1680)) (sine (t % 6720 % 1680)) four
         ∙ ap (spin (t % 6720 / 1680)) (sym (rest-low (2 ^ 60) cosine sine rule (lit≤ tt) (t % 6720 % 1680) h)) ∙ join
 
     high : (t % 6720 % 1680 ≤ 840 → ⊥) → at (entryOf (t % 6720)) ≡ spin (t / 1680 % 4) (rest cosine sine (t % 1680))
     high h =
-        ap at (sym (entry-exchanged (t % 6720) (omega (arith, h)))) ∙ on-quarters (t % 6720 / 1680) (sine (1680 - t % 6720 % 1680)) (cosine (1680 - t % 6720 % 1680)) four
+        ap at (sym (entry-exchanged (t % 6720) (omega (arith, h))))
+        ∙ on-quarters (t % 6720 / 1680) (sine (1680 - t % 6720 % 1680)) (cosine (1680 - t % 6720 % 1680)) four
         ∙ ap (spin (t % 6720 / 1680)) (sym (rest-high (2 ^ 60) cosine sine rule (lit≤ tt) (t % 6720 % 1680) (omega (arith, h)))) ∙ join
 
 house-spun : (t : ℕ) → house t ≡ spun cosine sine t
@@ -95,8 +90,7 @@ house-mod t =
 -- whole quarters
 pub house-whole : (t : ℕ) → t % 1680 ≡ 0 → house t ≡ spin (t / 1680 % 4) (below (2 ^ 60) 0)
 unfolding spun
-house-whole t e =
-    house-spun t ∙ ap (λ (b : ℕ). spin (t / 1680 % 4) (rest cosine sine b)) e
+house-whole t e = house-spun t ∙ ap (λ (b : ℕ). spin (t / 1680 % 4) (rest cosine sine b)) e
     ∙ ap (spin (t / 1680 % 4)) (rest-low (2 ^ 60) cosine sine rule (lit≤ tt) 0 (lit≤ tt) ∙ ap₂ below (rule .first .0) (rule .first .1))
 
 -- half a circle on
@@ -114,11 +108,11 @@ rests n = omega arith
 house-half : (t : ℕ) → house (t + 3360) ≡ quarter (quarter (house t))
 unfolding spun
 house-half t =
-    let b : (t + 3360) % 1680 ≡ t % 1680 = omega arith in
-    let on : (t + 3360) / 1680 ≡ t / 1680 + 2 = omega arith in
+    let b : (t + 3360) % 1680 ≡ t % 1680 = omega arith in let on : (t + 3360) / 1680 ≡ t / 1680 + 2 = omega arith in
     let q : (t + 3360) / 1680 % 4 ≡ (t / 1680 % 4 + 2) % 4 = ap (λ (n : ℕ). n % 4) on ∙ rests (t / 1680) in
     house-spun (t + 3360) ∙ ap₂ (λ (q b : ℕ). spin q (rest cosine sine b)) q b
-    ∙ turned-half (t / 1680 % 4) (rest cosine sine (t % 1680)) (mod-lt (t / 1680) (zero-lt-suc 3)) ∙ ap (λ (z : Gauss). quarter (quarter z)) (sym (house-spun t))
+    ∙ turned-half (t / 1680 % 4) (rest cosine sine (t % 1680)) (mod-lt (t / 1680) (zero-lt-suc 3))
+    ∙ ap (λ (z : Gauss). quarter (quarter z)) (sym (house-spun t))
 
 -- the mirror image in the other half: t and t' make half a circle, and whole ones
 pub house-mirror : (t t' m : ℕ) → t + t' ≡ 3360 + 6720 * m → house t' ≡ record { re = negZ (house t .re); im = house t .im }

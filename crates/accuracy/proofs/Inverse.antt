@@ -1,13 +1,7 @@
 -- What an accepted inverse call leaves, with the twiddles of an accepted filling, sample by sample against the sum over the bins. Assumes nothing.
-use mathlib.Core.Path.{_≡_, refl, sym, ap, ap₂, _∙_, subst}
-use mathlib.Core.List.{List, _++_}
-use Prim.Native.Nat.{ℕ, _+_, _-_, _*_, _/_, _^_, _≤_, _<_}
-use native.Mathlib.Nat.{le-trans, le-of-eq, le-of-lt, mul-le-mul-right, mul-le-mul-left, le-of-mul-le-mul-right}
-use native.Mathlib.Omega.{arith}
-use lib.Dec.{lit≤}
-use lib.Pow.{pow-pos}
-use lib.ListN.{length, getD, drop, length-append, length-drop}
-use lib.Seq.{getD-take}
+use Rattle.sequences.proofs.Basics.{_≡_, refl, sym, ap, ap₂, _∙_, subst, ℕ, _+_, _-_, _*_, _/_, _^_, _≤_, _<_, le-trans, le-of-eq, le-of-lt, mul-le-mul-right}
+use Rattle.sequences.proofs.Basics.{mul-le-mul-left, le-of-mul-le-mul-right, arith, List, _++_, lit≤, length, getD, drop, length-append, length-drop, getD-take}
+use Rattle.sequences.proofs.Basics.{pow-pos}
 use lib.Ieee.{Float, nan, binary32, neg}
 use Rattle.refusal.specs.declared.Verdict.{Verdict}
 use Rattle.refusal.specs.declared.Verdict.the-variants.{Accepted}
@@ -77,7 +71,8 @@ conj-close w a b cl =
       re = cl .re;
       im = neg-held binary32 b (cl .im);
       off =
-          subst (λ (s : Signed). Off (2 ^ 149 * (2 ^ 60 + 2)) (scaleG (2 ^ 24 * 2 ^ 60) (record { re = val binary32 a; im = s })) (scaleG (2 ^ 24 * 2 ^ 149) (conjG w))) (sym (neg-val binary32 b))
+          subst (λ (s : Signed). Off (2 ^ 149 * (2 ^ 60 + 2)) (scaleG (2 ^ 24 * 2 ^ 60) (record { re = val binary32 a; im = s }))
+          (scaleG (2 ^ 24 * 2 ^ 149) (conjG w))) (sym (neg-val binary32 b))
           (conj-disc _ (minusG (scaleG (2 ^ 24 * 2 ^ 60) (valC (cx a b))) (scaleG (2 ^ 24 * 2 ^ 149) w)) (cl .off));
     }
 
@@ -109,7 +104,14 @@ module _ (p : Record) (W : ℕ) (lent : Slices) (v : Verdict) (tw : Slices) (fil
   q-long : 4 * h ≤ length q
   unfolding preparedOf
   q-long =
-      omega (arith, length-append (preprocess-ifft h (tw .1) xs) (drop (2 * (h + 1)) (before .1)), length-ended ifftSteps h (tw .1) xs, length-drop (2 * (h + 1)) (before .1), asked .room, (told .some))
+      omega (
+        arith,
+        length-append (preprocess-ifft h (tw .1) xs) (drop (2 * (h + 1)) (before .1)),
+        length-ended ifftSteps h (tw .1) xs,
+        length-drop (2 * (h + 1)) (before .1),
+        asked .room,
+        (told .some),
+      )
 
   -- what the stages read
   abbrev inputs : List Complex
@@ -121,10 +123,10 @@ module _ (p : Record) (W : ℕ) (lent : Slices) (v : Verdict) (tw : Slices) (fil
 
   made : after .0 ≡ conjugated h (flat ran) ++ zeros (length (before .0) - 2 * h)
   unfolding inverseOf inverseRun conjugated
-  made =
-      ap (λ (s : Slices). s .0) (settled _ _ _ _ _ f (sym (f .answer) ∙ e))
+  made = ap (λ (s : Slices). s .0) (settled _ _ _ _ _ f (sym (f .answer) ∙ e))
       ∙ ap (λ (ys : List Float). ys ++ zeros (length (before .0) - 2 * h)) (restored-is h (resultIn (p .count)) _
-      ∙ ap (conjugated h) (filled-run Inverse p W lent v tw fills filled (conjugated h (dataOf h q)) (padOf h q) (length-conjugated h (dataOf h q)) (pad-length h q q-long)
+      ∙ ap (conjugated h) (filled-run Inverse p W lent v tw fills filled (conjugated h (dataOf h q)) (padOf h q) (length-conjugated h (dataOf h q))
+      (pad-length h q q-long)
       ∙ ap (λ (zs : List Complex). flat (run plain houseFloats h rs (p .count) zs)) (paired-flat inputs) ∙ ap flat (sym (run-housed h rs (p .count) inputs))))
 
   inputs-long : length inputs ≡ h
@@ -135,19 +137,16 @@ module _ (p : Record) (W : ℕ) (lent : Slices) (v : Verdict) (tw : Slices) (fil
 
   left-cell : (u : ℕ) → u < h → cell (after .0) u ≡ conjugate (getD ran u blank)
   unfolding conjugated
-  left-cell u l =
-      ap (λ (ys : List Float). cell ys u) made
+  left-cell u l = ap (λ (ys : List Float). cell ys u) made
       ∙ cell-front (conjugated h (flat ran)) (zeros (length (before .0) - 2 * h)) u (omega (arith, length-conjugated h (flat ran)))
-      ∙ cell-tabulated h (λ j. conjugate (cell (flat ran) j)) u l
-      ∙ ap conjugate (cell-flat ran u (rw ran-long l))
+      ∙ cell-tabulated h (λ j. conjugate (cell (flat ran) j)) u l ∙ ap conjugate (cell-flat ran u (rw ran-long l))
 
   -- ---- what the stages read
 
   data-cell : (j : ℕ) → j < h → cell (dataOf h q) j ≡ endCell ifftSteps h (cell xs) (endLent (tw .1)) j
   unfolding preparedOf ended
   data-cell j l =
-      let pre = preprocess-ifft h (tw .1) xs in
-      let rest = drop (2 * (h + 1)) (before .1) in
+      let pre = preprocess-ifft h (tw .1) xs in let rest = drop (2 * (h + 1)) (before .1) in
       ap₂ cx (getD-take (2 * h) (pre ++ rest) (2 * j) nan (omega arith)) (getD-take (2 * h) (pre ++ rest) (2 * j + 1) nan (omega arith))
       ∙ cell-front pre rest j (omega (arith, length-ended ifftSteps h (tw .1) xs))
       ∙ cell-tabulated (h + 1) (endCell ifftSteps h (cell xs) (endLent (tw .1))) j (omega arith)
@@ -166,7 +165,8 @@ module _ (p : Record) (W : ℕ) (lent : Slices) (v : Verdict) (tw : Slices) (fil
       let words = wordsOf (turnOf (part k (p .n))) in
       let is : endLent (tw .1) k ≡ cx (words .0) (neg (words .1)) = ap₂ cx (at .first) (at .second) in
       subst (Close (conjG (house (d * k)))) (sym is)
-      (conj-close (house (d * k)) (words .0) (words .1) (subst (λ (w : Gauss). Close w (cx (words .0) (words .1))) (told .turn-at k) (words-close (part k (p .n)))))
+      (conj-close (house (d * k)) (words .0) (words .1) (subst (λ (w : Gauss). Close w (cx (words .0) (words .1))) (told .turn-at k)
+      (words-close (part k (p .n)))))
 
   -- ---- sizes: 1024 a for each number of a bin, in parts of 2 ^ 20
 
@@ -189,18 +189,21 @@ module _ (p : Record) (W : ℕ) (lent : Slices) (v : Verdict) (tw : Slices) (fil
     N : ℕ → Gauss
     N = prepared d h (told .circle) b
 
-    is-ready : (k : ℕ) → k < h → Held binary32 (getD inputs k blank .re) × Held binary32 (getD inputs k blank .im) × Off ((2 ^ 60 + 2 ^ 50) * (1024 * a)) (scaleG (2 ^ 60) (valC (getD inputs k blank))) (N k)
+    is-ready : (k : ℕ) → k < h → Held binary32 (getD inputs k blank .re) × Held binary32 (getD inputs k blank .im)
+        × Off ((2 ^ 60 + 2 ^ 50) * (1024 * a)) (scaleG (2 ^ 60) (valC (getD inputs k blank))) (N k)
     unfolding N
     is-ready k l =
         let z = endCell ifftSteps h (cell xs) (endLent (tw .1)) k in
         let o = ready d h (told .circle) (told .some) (1024 * a) big few (cell xs) (endLent (tw .1)) sized end-close k (le-of-lt l) l in
-        subst (λ (y : Complex). Held binary32 (y .re) × Held binary32 (y .im) × Off ((2 ^ 60 + 2 ^ 50) * (1024 * a)) (scaleG (2 ^ 60) (valC y)) (prepared d h (told .circle) b k)) (sym (read-cell k l))
+        subst (λ (y : Complex). Held binary32 (y .re) × Held binary32 (y .im)
+        × Off ((2 ^ 60 + 2 ^ 50) * (1024 * a)) (scaleG (2 ^ 60) (valC y)) (prepared d h (told .circle) b k)) (sym (read-cell k l))
         (o .0, neg-held binary32 (z .im) (o .1), off-eq _ _ _ _ _ (ap (scaleG (2 ^ 60)) (sym (conj-val z))) refl (o .2))
 
     is-sized : (k : ℕ) → k < h → Disc (2 ^ 20 * (2898 * a)) (valC (getD inputs k blank))
     is-sized k l =
         let z = endCell ifftSteps h (cell xs) (endLent (tw .1)) k in
-        subst (Disc (2 ^ 20 * (2898 * a))) (sym (ap valC (read-cell k l) ∙ conj-val z)) (cell-disc d h (told .circle) (told .some) (1024 * a) big few (cell xs) (endLent (tw .1)) sized end-close a refl k l)
+        subst (Disc (2 ^ 20 * (2898 * a))) (sym (ap valC (read-cell k l) ∙ conj-val z))
+        (cell-disc d h (told .circle) (told .some) (1024 * a) big few (cell xs) (endLent (tw .1)) sized end-close a refl k l)
 
     abbrev E : ℕ
     E = error rs (length rs)
@@ -215,15 +218,15 @@ module _ (p : Record) (W : ℕ) (lent : Slices) (v : Verdict) (tw : Slices) (fil
     total = le-trans (le-of-eq (constant h (2898 * a))) most
 
     ran-held : (u : ℕ) → u < h → Held binary32 (getD ran u blank .re) × Held binary32 (getD ran u blank .im)
-    ran-held u l =
-        subst (λ (z : Complex). Held binary32 (z .re) × Held binary32 (z .im)) (sym (ran-is u))
-        (run-held (d * 2) h (told .pairs) rs (use-product p (told .planned)) (told .some) (told .eight) (told .short) inputs (λ k m. (is-ready k m .0, is-ready k m .1)) (λ k. 2898 * a) is-sized enough total u l)
+    ran-held u l = subst (λ (z : Complex). Held binary32 (z .re) × Held binary32 (z .im)) (sym (ran-is u))
+        (run-held (d * 2) h (told .pairs) rs (use-product p (told .planned)) (told .some) (told .eight)
+        (told .short) inputs (λ k m. (is-ready k m .0, is-ready k m .1)) (λ k. 2898 * a) is-sized enough total u l)
 
     ran-off : (u : ℕ) → u < h → Off (E * (h * (2898 * a))) (scaleG (2 ^ 60) (valC (getD ran u blank))) (dft house (d * 2) h (λ k. valC (getD inputs k blank)) u)
-    ran-off u l =
-        off-eq _ _ _ _ _ (ap (λ (z : Complex). scaleG (2 ^ 60) (valC z)) (sym (ran-is u))) refl
+    ran-off u l = off-eq _ _ _ _ _ (ap (λ (z : Complex). scaleG (2 ^ 60) (valC z)) (sym (ran-is u))) refl
         (off-more _ _ _ _ (le-of-eq (ap (λ (n : ℕ). E * n) (constant h (2898 * a))))
-        (run-off (d * 2) h (told .pairs) rs (use-product p (told .planned)) (told .some) (told .eight) (told .short) inputs (λ k m. (is-ready k m .0, is-ready k m .1)) (λ k. 2898 * a) is-sized enough total u l))
+        (run-off (d * 2) h (told .pairs) rs (use-product p (told .planned)) (told .some) (told .eight)
+        (told .short) inputs (λ k m. (is-ready k m .0, is-ready k m .1)) (λ k. 2898 * a) is-sized enough total u l))
 
     -- the stages on what was prepared, against the stages on what was prepared exactly
     abbrev D : ℕ
@@ -235,7 +238,8 @@ module _ (p : Record) (W : ℕ) (lent : Slices) (v : Verdict) (tw : Slices) (fil
         off-more _ _ _ _ (le-of-eq (ap (λ (n : ℕ). 2 ^ 60 * (E * (h * (2898 * a))) + n) (constant h ((2 ^ 60 + 2 ^ 50) * (1024 * a) * (2 ^ 60 + 1)))))
         (off-trans _ _ _ _ _ (off-scale (2 ^ 60) _ _ _ (ran-off u l))
         (off-eq _ _ _ _ _ (sym (sum-scale h (λ k. timesG (valC (getD inputs k blank)) (house (d * 2 * (k * u)))) (2 ^ 60))) refl
-        (off-sum h (λ k. (2 ^ 60 + 2 ^ 50) * (1024 * a) * (2 ^ 60 + 1)) (λ k. scaleG (2 ^ 60) (timesG (valC (getD inputs k blank)) (house (d * 2 * (k * u))))) (λ k. timesG (N k) (house (d * 2 * (k * u))))
+        (off-sum h (λ k. (2 ^ 60 + 2 ^ 50) * (1024 * a) * (2 ^ 60 + 1)) (λ k. scaleG (2 ^ 60) (timesG (valC (getD inputs k blank)) (house (d * 2 * (k * u)))))
+        (λ k. timesG (N k) (house (d * 2 * (k * u))))
         (λ k m. off-same _ _ _ _ _ (same-scale-right (2 ^ 60) (valC (getD inputs k blank)) (house (d * 2 * (k * u)))) (same-self _)
         (off-times _ _ (scaleG (2 ^ 60) (valC (getD inputs k blank))) (N k) (house (d * 2 * (k * u))) (is-ready k m .2) (turns .norm (d * 2 * (k * u))))))))
 
@@ -262,30 +266,34 @@ module _ (p : Record) (W : ℕ) (lent : Slices) (v : Verdict) (tw : Slices) (fil
     room K h x t l = omega (arith, mul-le-mul-right (h * x) l)
 
     -- both samples of a pair
-    pub pair-near : (u : ℕ) → u < h
-        → Held binary32 (cell (after .0) u .re) × Held binary32 (cell (after .0) u .im)
+    pub pair-near : (u : ℕ) → u < h → Held binary32 (cell (after .0) u .re) × Held binary32 (cell (after .0) u .im)
         × NearZ R (scale (2 ^ 60) (val binary32 (cell (after .0) u .re))) (synthesis house d h b (2 * u))
         × NearZ R (scale (2 ^ 60) (val binary32 (cell (after .0) u .im))) (synthesis house d h b (2 * u + 1))
     unfolding N
     pair-near u l =
-        let z = getD ran u blank in
-        let o = made-off u l in
+        let z = getD ran u blank in let o = made-off u l in
         let β = minusZ (val binary32 (cell xs 0 .re)) (val binary32 (cell xs 0 .im)) in
         let γ = minusZ (val binary32 (cell xs h .re)) (val binary32 (cell xs h .im)) in
         let first : b 0 ≡ folded (cell xs 0) = taken-first h (cell xs) in
         let last : b h ≡ folded (cell xs h) = taken-last h (cell xs) (told .some) in
-        let re-near : NearZ D (scale (2 ^ 60) (scale (2 ^ 60) (val binary32 (z .re)))) (dft house (d * 2) h (prepared d h (told .circle) b) u .re) = abs-near _ _ _ (part-re _ _ o) in
-        let im-near : NearZ D (scale (2 ^ 60) (scale (2 ^ 60) (val binary32 (z .im)))) (dft house (d * 2) h (prepared d h (told .circle) b) u .im) = abs-near _ _ _ (part-im _ _ o) in
+        let re-near : NearZ D (scale (2 ^ 60) (scale (2 ^ 60) (val binary32 (z .re)))) (dft house (d * 2) h (prepared d h (told .circle) b) u .re) =
+        abs-near _ _ _ (part-re _ _ o) in
+        let im-near : NearZ D (scale (2 ^ 60) (scale (2 ^ 60) (val binary32 (z .im)))) (dft house (d * 2) h (prepared d h (told .circle) b) u .im) =
+        abs-near _ _ _ (part-im _ _ o) in
         let even = even-sample d h (told .circle) b β γ first last u in
-        let odd = odd-sample d h (told .circle) b β γ first last u (4 * (1024 * a)) (λ k m. difference-disc d h (told .circle) (told .some) (1024 * a) big few (cell xs) (endLent (tw .1)) sized end-close k m) in
+        let odd = odd-sample d h (told .circle) b β γ first last u (4 * (1024 * a))
+        (λ k m. difference-disc d h (told .circle) (told .some) (1024 * a) big few (cell xs) (endLent (tw .1)) sized end-close k m) in
         subst (λ (y : Complex). Held binary32 (y .re) × Held binary32 (y .im) × NearZ R (scale (2 ^ 60) (val binary32 (y .re))) (synthesis house d h b (2 * u))
         × NearZ R (scale (2 ^ 60) (val binary32 (y .im))) (synthesis house d h b (2 * u + 1))) (sym (left-cell u l)) (
           ran-held u l .0,
           neg-held binary32 (z .im) (ran-held u l .1),
-          divided (2 ^ 60) (D + 0) R (scale (2 ^ 60) (val binary32 (z .re))) (synthesis house d h b (2 * u)) (pow-pos 60) (less D _ _ (room (2 ^ 60) h (1024 * a) (E * (h * (2898 * a))) (lit≤ tt))) (joined D 0 _ _ _ re-near even),
+          divided (2 ^ 60) (D + 0) R (scale (2 ^ 60) (val binary32 (z .re))) (synthesis house d h b (2 * u)) (pow-pos 60)
+              (less D _ _ (room (2 ^ 60) h (1024 * a) (E * (h * (2898 * a))) (lit≤ tt))) (joined D 0 _ _ _ re-near even),
           subst (λ (s : Signed). NearZ R (scale (2 ^ 60) s) (synthesis house d h b (2 * u + 1))) (sym (neg-val binary32 (z .im)))
-              (divided (2 ^ 60) (D + h * (2 ^ 39 * 2 ^ 60 * (4 * (1024 * a)))) R (scale (2 ^ 60) (negZ (val binary32 (z .im)))) (synthesis house d h b (2 * u + 1)) (pow-pos 60) (room (2 ^ 60) h (1024 * a) (E * (h * (2898 * a))) (lit≤ tt))
-              (negated _ (scale (2 ^ 60) (scale (2 ^ 60) (val binary32 (z .im)))) (scale (2 ^ 60) (negZ (synthesis house d h b (2 * u + 1)))) (joined D _ _ _ _ im-near odd))),
+              (divided (2 ^ 60) (D + h * (2 ^ 39 * 2 ^ 60 * (4 * (1024 * a)))) R (scale (2 ^ 60) (negZ (val binary32 (z .im))))
+              (synthesis house d h b (2 * u + 1)) (pow-pos 60) (room (2 ^ 60) h (1024 * a) (E * (h * (2898 * a))) (lit≤ tt))
+              (negated _ (scale (2 ^ 60) (scale (2 ^ 60) (val binary32 (z .im)))) (scale (2 ^ 60) (negZ (synthesis house d h b (2 * u + 1))))
+              (joined D _ _ _ _ im-near odd))),
         )
       where
         less : (x y z : ℕ) → x + y ≤ z → x + 0 ≤ z

@@ -1,13 +1,8 @@
 -- The words of a turn, against the house table's numbers: each is one of them, rounded to f32; and half of it. Assumes nothing.
-use mathlib.Core.Path.{_≡_, refl, sym, ap, _∙_, subst, subst₂}
-use mathlib.Core.Logic.{dite}
-use Prim.Native.Nat.{ℕ, zero, suc, _+_, _-_, _*_, _/_, _%_, _^_, _≤_, _<_, zero-le, compare}
-use native.Mathlib.Nat.{le-refl, le-trans, le-of-eq, lt-of-le-of-lt, lt-of-lt-of-le, mul-le-mul-right, mul-le-mul-left, pow-suc, div-div-eq-div-mul, le-div-iff-mul-le, not-le-of-lt, mod-eq-of-lt, mod-lt, zero-lt-suc}
-use native.Mathlib.Decide.{decLe}
-use native.Mathlib.Omega.{arith}
-use mathlib.Core.Bool.{Bool, true, false}
-use lib.Dec.{lit≤, lit<}
-use lib.Pow.{pow-pos, pow-mono}
+use Rattle.sequences.proofs.Basics.{_≡_, refl, sym, ap, _∙_, subst, subst₂, ℕ, zero, suc, _+_, _-_, _*_, _/_, _%_, _^_, _≤_, _<_, zero-le, compare, le-refl}
+use Rattle.sequences.proofs.Basics.{le-trans, le-of-eq, lt-of-le-of-lt, lt-of-lt-of-le, mul-le-mul-right, mul-le-mul-left, pow-suc, div-div-eq-div-mul}
+use Rattle.sequences.proofs.Basics.{le-div-iff-mul-le, not-le-of-lt, mod-eq-of-lt, mod-lt, zero-lt-suc, arith, decLe, Bool, true, false, dite, lit≤, lit<}
+use Rattle.sequences.proofs.Basics.{pow-pos, pow-mono}
 use lib.IntN.{negsuc}
 use lib.Ieee.{Float, fin, binary32, round, mul, unlike, size, ofBits}
 use lib.Ieee.Digits.{size-lt}
@@ -51,15 +46,14 @@ pub record Halved (g : ℕ) : Type 0 where
 
 kept-le : (p n den : ℕ) → kept p n den ≤ 2 ^ p
 kept-le p n den =
-    let k = drop p n den in
-    let u = den * 2 ^ k in
+    let k = drop p n den in let u = den * 2 ^ k in
     le-trans (nearest-le (n / u) (compare (n % u * 2) u)) (subst (λ (x : ℕ). x < 2 ^ p) (div-div-eq-div-mul n den (2 ^ k)) (kept-lt p (n / den)))
 
 halved : (c k : ℕ) → c ≤ 2 ^ 24 → 0 < k → Halved (c * 2 ^ k)
 halved c zero l p = absurd (not-le-of-lt p (le-refl 0))
-halved c (suc k) l p =
-    dite (decLe c (2 ^ 24 - 1))
-    (λ (g : c ≤ 2 ^ 24 - 1). record { v = c * 2 ^ k; twice = ap (λ (x : ℕ). c * x) (pow-suc 2 k) ∙ order c (2 ^ k); q = c; j = k; small = omega arith; same = refl })
+halved c (suc k) l p = dite (decLe c (2 ^ 24 - 1))
+    (λ (g : c ≤ 2 ^ 24 - 1).
+    record { v = c * 2 ^ k; twice = ap (λ (x : ℕ). c * x) (pow-suc 2 k) ∙ order c (2 ^ k); q = c; j = k; small = omega arith; same = refl })
     (λ (g : c ≤ 2 ^ 24 - 1 → ⊥).
     let e : c ≡ 2 ^ 24 = omega arith in
     record { v = 2 ^ 23 * 2 ^ suc k; twice = ap (λ (x : ℕ). x * 2 ^ suc k) e ∙ full (2 ^ suc k); q = 2 ^ 23; j = suc k; small = lit< tt; same = refl })
@@ -85,7 +79,8 @@ grid-halved a = halved (kept 24 (suc a * 2 ^ 149) (2 ^ 60)) (drop 24 (suc a * 2 
         one a = omega arith
 
     positive : 0 < size w - 24
-    positive = dite (decLe (size w) 24) (λ (g : size w ≤ 24). absurd (not-le-of-lt (lt-of-lt-of-le (size-lt w) (pow-mono g)) large)) (λ (g : size w ≤ 24 → ⊥). omega arith)
+    positive = dite (decLe (size w) 24) (λ (g : size w ≤ 24). absurd (not-le-of-lt (lt-of-lt-of-le (size-lt w) (pow-mono g)) large))
+        (λ (g : size w ≤ 24 → ⊥). omega arith)
 
 -- ---- one word of a turn: plus or minus a / 2 ^ 60, rounded to g units
 
@@ -120,7 +115,8 @@ word m zero small = record {
   parts = record { v = 0; twice = refl; q = 0; j = 0; small = lit< tt; same = refl };
 }
 word m (suc a) small =
-    let stays : grid binary32 (suc a) (2 ^ 60) ≤ 2 * 2 ^ 149 = grid-bound binary32 (suc a) (2 ^ 60) (pow-pos 60) 2 149 (lit≤ tt) (le-trans (mul-le-mul-right (2 ^ 149) small) (lit≤ tt)) in
+    let stays : grid binary32 (suc a) (2 ^ 60) ≤ 2 * 2 ^ 149 = grid-bound binary32 (suc a) (2 ^ 60) (pow-pos 60) 2 149 (lit≤ tt)
+    (le-trans (mul-le-mul-right (2 ^ 149) small) (lit≤ tt)) in
     record {
       s = m;
       g = grid binary32 (suc a) (2 ^ 60);
@@ -150,7 +146,8 @@ part-rounded m a small =
     let w = word m a (size-of m a (2 ^ 61) small) in (
       held-is binary32 x (w .s) (w .g) (w .has),
       subst (λ (b : ℕ). NearZ (b * 2 ^ 149 + 2 ^ 23 * 2 ^ 60) (scale (2 ^ 24 * 2 ^ 60) (val binary32 x)) (scale (2 ^ 24 * 2 ^ 149) (signed m a))) (size-is m a)
-          (subst (λ (v : Signed). NearZ (a * 2 ^ 149 + 2 ^ 23 * 2 ^ 60) (scale (2 ^ 24 * 2 ^ 60) v) (scale (2 ^ 24 * 2 ^ 149) (signed m a))) (sym (val-is binary32 x (w .s) (w .g) (w .has)))
+          (subst (λ (v : Signed). NearZ (a * 2 ^ 149 + 2 ^ 23 * 2 ^ 60) (scale (2 ^ 24 * 2 ^ 60) v) (scale (2 ^ 24 * 2 ^ 149) (signed m a)))
+          (sym (val-is binary32 x (w .s) (w .g) (w .has)))
           (carry (2 ^ 24 * 2 ^ 60) (2 ^ 24 * 2 ^ 149) _ (w .g) a (w .s) (signed m a) (w .near) (w .signs))),
     )
 
@@ -161,21 +158,22 @@ HalfOf x = Held binary32 (mul binary32 half x) × NearZ 0 (scale 2 (val binary32
 part-halved : (m : Bool) (a : ℕ) → absZ (signed m a) ≤ 2 ^ 61 → HalfOf (rounded m a)
 unfolding HalfOf
 part-halved m a small =
-    let x = rounded m a in
-    let w = word m a (size-of m a (2 ^ 61) small) in
-    let s = w .s in
-    let g = w .g in
-    let H = w .parts in
-    let v = H .v in
+    let x = rounded m a in let w = word m a (size-of m a (2 ^ 61) small) in let s = w .s in let g = w .g in
+    let H = w .parts in let v = H .v in
     let is : mul binary32 half x ≡ round binary32 (unlike false s) v (2 ^ 149) =
     mul-at binary32 half x false s 1 g 2 (2 ^ 149) (lit< tt) (pow-pos 149) (refl, refl) (w .has)
-    ∙ round-same binary32 (unlike false s) (1 * g) (2 * 2 ^ 149) v (2 ^ 149) (lit< tt) (pow-pos 149) (ap (λ (n : ℕ). 1 * n * 2 ^ 149) (H .twice) ∙ order v (2 ^ 149)) in
+    ∙ round-same binary32 (unlike false s) (1 * g) (2 * 2 ^ 149) v (2 ^ 149) (lit< tt) (pow-pos 149)
+    (ap (λ (n : ℕ). 1 * n * 2 ^ 149) (H .twice) ∙ order v (2 ^ 149)) in
     let le : v ≤ 2 * 2 ^ 149 = le-trans (less v g (H .twice)) (w .stays) in
     let r : HasValue (round binary32 (unlike false s) v (2 ^ 149)) (unlike false s) v (2 ^ 149) =
-    round-exact binary32 (unlike false s) v (2 ^ 149) (H .q) (H .j) (pow-pos 149) (H .small) (lt-of-le-of-lt (le-trans (le-of-eq (sym (H .same))) le) (lit< tt)) (ap (λ (n : ℕ). n * 2 ^ 149) (H .same)) in
+    round-exact binary32 (unlike false s) v (2 ^ 149) (H .q) (H .j) (pow-pos 149) (H .small) (lt-of-le-of-lt (le-trans (le-of-eq (sym (H .same))) le) (lit< tt))
+    (ap (λ (n : ℕ). n * 2 ^ 149) (H .same)) in
     let z = mul binary32 half x in
-    let r' : HasValue z (unlike false s) v (2 ^ 149) = subst (λ (f : Float). HasValue f (unlike false s) v (2 ^ 149)) (sym is) r in
-    (held-is binary32 z (unlike false s) v r', subst₂ (λ (i k : Signed). NearZ 0 (scale 2 i) k) (sym (val-is binary32 z (unlike false s) v r')) (sym (val-is binary32 x s g (w .has))) (double s v g (H .twice)))
+    let r' : HasValue z (unlike false s) v (2 ^ 149) = subst (λ (f : Float). HasValue f (unlike false s) v (2 ^ 149)) (sym is) r in (
+      held-is binary32 z (unlike false s) v r',
+      subst₂ (λ (i k : Signed). NearZ 0 (scale 2 i) k) (sym (val-is binary32 z (unlike false s) v r'))
+          (sym (val-is binary32 x s g (w .has))) (double s v g (H .twice)),
+    )
   where
     order : (v u : ℕ) → 1 * (2 * v) * u ≡ v * (2 * u)
     order v u = omega arith
@@ -209,11 +207,11 @@ both-close w t d re im =
     record {
       re = re .0;
       im = im .0;
-      off =
-          disc-more (2 ^ 149 * (2 ^ 60 + 1) + 2 * (2 ^ 23 * 2 ^ 60)) (2 ^ 149 * (2 ^ 60 + 2)) _ (lit≤ tt)
+      off = disc-more (2 ^ 149 * (2 ^ 60 + 1) + 2 * (2 ^ 23 * 2 ^ 60)) (2 ^ 149 * (2 ^ 60 + 2)) _ (lit≤ tt)
           (record {
             inside =
-                triangle (absZ (w .re) * 2 ^ 149) (absZ (w .im) * 2 ^ 149) (2 ^ 23 * 2 ^ 60) (2 ^ 23 * 2 ^ 60) (2 ^ 149 * (2 ^ 60 + 1)) (2 * (2 ^ 23 * 2 ^ 60)) _ _
+                triangle (absZ (w .re) * 2 ^ 149) (absZ (w .im) * 2 ^ 149) (2 ^ 23 * 2 ^ 60) (2 ^ 23 * 2 ^ 60) (2 ^ 149 * (2 ^ 60 + 1))
+                (2 * (2 ^ 23 * 2 ^ 60)) _ _
                 (scaled (absZ (w .re)) (absZ (w .im)) (2 ^ 149) (2 ^ 60 + 1) (d .inside)) (corner (2 ^ 23 * 2 ^ 60))
                 (near-abs _ (scale (2 ^ 24 * 2 ^ 60) (val binary32 (t .re))) (scale (2 ^ 24 * 2 ^ 149) (w .re)) (re .1))
                 (near-abs _ (scale (2 ^ 24 * 2 ^ 60) (val binary32 (t .im))) (scale (2 ^ 24 * 2 ^ 149) (w .im)) (im .1));
@@ -237,8 +235,11 @@ half-close w t cl re im =
       re = re .0;
       im = im .0;
       off =
-          off-same (2 ^ 149 * (2 ^ 60 + 2)) (scaleG (2 ^ 24 * 2 ^ 60) (valC t)) (scaleG (2 ^ 24 * 2 ^ 149) w) (scaleG (2 ^ 24 * (2 * 2 ^ 60)) (valC (halves t))) (scaleG (2 ^ 24 * 2 ^ 149) w)
-          (doubled (2 ^ 24) (2 ^ 60) (val binary32 (mul binary32 half (t .re))) (val binary32 (t .re)) (re .1), doubled (2 ^ 24) (2 ^ 60) (val binary32 (mul binary32 half (t .im))) (val binary32 (t .im)) (im .1))
+          off-same (2 ^ 149 * (2 ^ 60 + 2)) (scaleG (2 ^ 24 * 2 ^ 60) (valC t)) (scaleG (2 ^ 24 * 2 ^ 149) w) (scaleG (2 ^ 24 * (2 * 2 ^ 60)) (valC (halves t)))
+          (scaleG (2 ^ 24 * 2 ^ 149) w) (
+            doubled (2 ^ 24) (2 ^ 60) (val binary32 (mul binary32 half (t .re))) (val binary32 (t .re)) (re .1),
+            doubled (2 ^ 24) (2 ^ 60) (val binary32 (mul binary32 half (t .im))) (val binary32 (t .im)) (im .1),
+          )
           (same-self (scaleG (2 ^ 24 * 2 ^ 149) w)) (cl .off);
     }
 
@@ -253,14 +254,14 @@ module _ (index : ℕ) (l : index < 6720) where
   each : (P : Float → Signed → Type 0) → ((m : Bool) (a : ℕ) → absZ (signed m a) ≤ 2 ^ 61 → P (rounded m a) (signed m a))
       → P (numbersAt index .0) (exactAt index .0) × P (numbersAt index .1) (exactAt index .1)
   unfolding numbersAt
-  each P f =
-      pair P f (entryOf index .quarter) (entryOf index .cosine) (entryOf index .sine)
+  each P f = pair P f (entryOf index .quarter) (entryOf index .cosine) (entryOf index .sine)
       (le-trans (part-re (2 ^ 60 + 1) _ disc) (lit≤ tt)) (le-trans (part-im (2 ^ 60 + 1) _ disc) (lit≤ tt))
 
   pub numbers-close : Close (house index) (numbers index)
   numbers-close =
       let r = each Rounded part-rounded in
-      subst (λ (w : Gauss). Close w (numbers index)) (sym here) (both-close (record { re = exactAt index .0; im = exactAt index .1 }) (numbers index) disc (r .0) (r .1))
+      subst (λ (w : Gauss). Close w (numbers index)) (sym here) (both-close (record { re = exactAt index .0; im = exactAt index .1 })
+      (numbers index) disc (r .0) (r .1))
 
   numbers-halved : HalfClose (house index) (halves (numbers index))
   numbers-halved =
@@ -281,11 +282,8 @@ whole-quarters (suc (suc (suc (suc q)))) l z e = absurd (none q l)
     none q l = omega arith
 
 at-faithful : (index : ℕ) → index < 6720 → Faithful (house index) (turnAt index)
-at-faithful index l =
-    dite (decLe (index % 1680) 0)
-    (λ (z : index % 1680 ≤ 0).
-    let few : index / 1680 < 4 = omega arith in
-    let same : index / 1680 % 4 ≡ index / 1680 = omega arith in
+at-faithful index l = dite (decLe (index % 1680) 0) (λ (z : index % 1680 ≤ 0).
+    let few : index / 1680 < 4 = omega arith in let same : index / 1680 % 4 ≡ index / 1680 = omega arith in
     subst (Faithful (house index)) (turn-whole index (omega arith))
     (whole-quarters (index / 1680) few (house index) (house-whole index (omega arith) ∙ ap (λ (q : ℕ). spin q (below (2 ^ 60) 0)) same)))
     (λ (z : index % 1680 ≤ 0 → ⊥). subst (Faithful (house index)) (turn-numbers index (λ (e : index % 1680 ≡ 0). z (omega arith))) (numbers-close index l))
@@ -307,4 +305,5 @@ module _ (a : Part) where
 
   -- and their halves
   pub words-halved : HalfClose (house (indexOf a)) (cx (mul binary32 half (wordsOf (turnOf a) .0)) (mul binary32 half (wordsOf (turnOf a) .1)))
-  words-halved = subst (λ (w : Float × Float). HalfClose (house (indexOf a)) (cx (mul binary32 half (w .0)) (mul binary32 half (w .1)))) (sym (words-are a)) (numbers-halved (indexOf a) inside)
+  words-halved = subst (λ (w : Float × Float). HalfClose (house (indexOf a)) (cx (mul binary32 half (w .0)) (mul binary32 half (w .1)))) (sym (words-are a))
+      (numbers-halved (indexOf a) inside)

@@ -1,14 +1,8 @@
 -- How far `round` moves a fraction, in units of the format's smallest value. That it passes no value of its format
 -- is `grid-bound` of crates/finite. Assumes nothing.
-use mathlib.Core.Path.{_≡_, subst}
-use mathlib.Core.Logic.{dite}
-use Prim.Native.Nat.{ℕ, _+_, _-_, _*_, _/_, _%_, _^_, _≤_, _<_, compare, Ordering, Ordering·lt, Ordering·eq, Ordering·gt}
-use native.Mathlib.Nat.{le-trans, le-of-lt, mul-one, mul-le-mul-right, mul-le-mul-left, le-of-mul-le-mul-right, mul-pos, div-add-mod', mod-lt}
-use native.Mathlib.Decide.{decLe}
-use native.Mathlib.Omega.{arith}
-use mathlib.Core.Bool.{not}
-use lib.Dec.{T, isLe, isEq, leb→le, nleb→lt, eqb→eq}
-use lib.Pow.{pow-pos}
+use Rattle.sequences.proofs.Basics.{_≡_, subst, ℕ, _+_, _-_, _*_, _/_, _%_, _^_, _≤_, _<_, compare, Ordering, Ordering·lt, Ordering·eq, Ordering·gt, le-trans}
+use Rattle.sequences.proofs.Basics.{le-of-lt, mul-one, mul-le-mul-right, mul-le-mul-left, le-of-mul-le-mul-right, mul-pos, div-add-mod', mod-lt, arith, decLe}
+use Rattle.sequences.proofs.Basics.{not, dite, T, isLe, isEq, leb→le, nleb→lt, eqb→eq, pow-pos}
 use lib.Ieee.{Format, prec, low, nearest}
 use lib.Ieee.Fits.{two, two-le-pos}
 use lib.Ieee.Nearest.{closest}
@@ -39,25 +33,20 @@ half-off q r b Ordering·eq l h =
 half-off q r b Ordering·gt l h = omega arith
 
 pub closest-near : (a b : ℕ) → 0 < b → Near b (2 * (closest a b * b)) (2 * a)
-closest-near a b h =
-    subst (λ (x : ℕ). Near b (2 * (closest a b * b)) (2 * x)) (div-add-mod' a b)
+closest-near a b h = subst (λ (x : ℕ). Near b (2 * (closest a b * b)) (2 * x)) (div-add-mod' a b)
     (half-off (a / b) (a % b) b (compare (a % b * 2) b) (le-of-lt (mod-lt a h)) (side (a % b * 2) b))
 
 -- ---- the digits dropped
 module _ (p n den : ℕ) (P : 0 < p) (D : 0 < den) where
   -- half of the unit dropped to, against n
   pub unit-small : 2 ^ (p - 1) * (den * 2 ^ drop p n den) ≤ n + 2 ^ (p - 1) * den
-  unit-small =
-      dite (decLe 1 (drop p n den))
-      (λ (g : 1 ≤ drop p n den). le-trans (above p n den P D g) (omega arith))
+  unit-small = dite (decLe 1 (drop p n den)) (λ (g : 1 ≤ drop p n den). le-trans (above p n den P D g) (omega arith))
       (λ (g : 1 ≤ drop p n den → ⊥). let z : drop p n den ≡ 0 = omega arith in rw z (omega arith))
 
   -- a fraction n / den is off by a 2 ^ p-th part of itself and half a unit at most
   pub kept-near : Near (n + 2 ^ (p - 1) * den) (2 ^ p * (kept p n den * 2 ^ drop p n den * den)) (2 ^ p * n)
   kept-near =
-      let H = 2 ^ (p - 1) in
-      let K = 2 ^ drop p n den in
-      let c = kept p n den in
+      let H = 2 ^ (p - 1) in let K = 2 ^ drop p n den in let c = kept p n den in
       let e = closest-near n (den * K) (mul-pos D (pow-pos (drop p n den))) in
       let a : H * (2 * (c * (den * K))) ≤ H * (2 * n + den * K) = mul-le-mul-left H (e .0) in
       let b : H * (2 * n) ≤ H * (2 * (c * (den * K)) + den * K) = mul-le-mul-left H (e .1) in
@@ -66,13 +55,8 @@ module _ (p n den : ℕ) (P : 0 < p) (D : 0 < den) where
 -- a whole number is off by a 2 ^ p-th part of itself at most
 module _ (p v den : ℕ) (P : 0 < p) (D : 0 < den) where
   pub whole-near : Near v (2 ^ p * (kept p (v * den) den * 2 ^ drop p (v * den) den)) (2 ^ p * v)
-  whole-near =
-      dite (decLe 1 (drop p (v * den) den))
-      (λ (g : 1 ≤ drop p (v * den) den).
-      let k = drop p (v * den) den in
-      let H = 2 ^ (p - 1) in
-      let c = kept p (v * den) den in
-      let K = 2 ^ k in
+  whole-near = dite (decLe 1 (drop p (v * den) den)) (λ (g : 1 ≤ drop p (v * den) den).
+      let k = drop p (v * den) den in let H = 2 ^ (p - 1) in let c = kept p (v * den) den in let K = 2 ^ k in
       let u : H * (den * K) ≤ v * den = above p (v * den) den P D g in
       let u' : H * K ≤ v = le-of-mul-le-mul-right {m = H * K} (omega arith) D in
       let e = closest-near (v * den) (den * K) (mul-pos D (pow-pos k)) in
@@ -80,8 +64,7 @@ module _ (p v den : ℕ) (P : 0 < p) (D : 0 < den) where
       let b : 2 * v ≤ 2 * (c * K) + K = le-of-mul-le-mul-right {m = 2 * v} (omega arith) D in
       let a' : H * (2 * (c * K)) ≤ H * (2 * v + K) = mul-le-mul-left H a in
       let b' : H * (2 * v) ≤ H * (2 * (c * K) + K) = mul-le-mul-left H b in
-      rw (twice p (v * den) den P D) (omega arith))
-      (λ (g : 1 ≤ drop p (v * den) den → ⊥).
+      rw (twice p (v * den) den P D) (omega arith)) (λ (g : 1 ≤ drop p (v * den) den → ⊥).
       let z : drop p (v * den) den ≡ 0 = omega arith in
       let e : closest (v * den) (den * 1) ≡ v = rw mul-one (closest-whole v den D) in
       rw (z, e) (omega arith))

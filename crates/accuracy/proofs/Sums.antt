@@ -1,8 +1,6 @@
 -- Sums of complex whole numbers. Assumes nothing.
-use mathlib.Core.Path.{_≡_, refl, sym, ap, ap₂, _∙_}
-use Prim.Native.Nat.{ℕ, zero, suc, _+_, _*_, _≤_, _<_}
-use native.Mathlib.Nat.{le-refl, le-trans, le-step, add-zero, add-suc, suc-mul, zero-mul}
-use native.Mathlib.Omega.{arith}
+use Rattle.sequences.proofs.Basics.{_≡_, refl, sym, ap, ap₂, _∙_, ℕ, zero, suc, _+_, _*_, _≤_, _<_, le-refl, le-trans, le-step, add-zero, add-suc, suc-mul}
+use Rattle.sequences.proofs.Basics.{zero-mul, arith}
 use Rattle.accuracy.specs.Gauss.{Gauss, zeroG, plusG, timesG, scaleG, Disc, Off, sumG}
 use Rattle.accuracy.specs.Value.{Signed}
 use Rattle.accuracy.proofs.Dft.{sumN}

@@ -3,16 +3,9 @@
 -- such a spectrum (`power-takes-it`); a line that the samples go along is seen in what power answers over any band with its bin (`line-seen`,
 -- `line-heard`); and a band whose exact bins are small is answered with little power (`quiet-stays-quiet`). Bins are counted in units of 2 ^ -149,
 -- exact bins in 2 ^ 60 parts of these. Assumes nothing.
-use mathlib.Core.Path.{_≡_, refl, sym, ap, _∙_, subst}
-use mathlib.Core.Bool.{true}
-use mathlib.Core.Logic.{dite}
-use mathlib.Core.List.{List, [], _∷_}
-use Prim.Native.Nat.{ℕ, _+_, _-_, _*_, _/_, _%_, _^_, _≤_, _<_}
-use native.Mathlib.Nat.{le-refl, le-trans, le-of-eq, mul-le-mul, mul-le-mul-right, add-le-add, mul-pos, le-of-mul-le-mul-right}
-use native.Mathlib.Decide.{decLe}
-use native.Mathlib.Omega.{arith}
-use lib.Dec.{T, lit≤, lit<}
-use lib.ListN.{length, getD}
+use Rattle.sequences.proofs.Basics.{_≡_, refl, sym, ap, _∙_, subst, ℕ, _+_, _-_, _*_, _/_, _%_, _^_, _≤_, _<_, le-refl, le-trans, le-of-eq, mul-le-mul}
+use Rattle.sequences.proofs.Basics.{mul-le-mul-right, add-le-add, mul-pos, le-of-mul-le-mul-right, arith, decLe, true, dite, List, [], _∷_, T, lit≤, lit<}
+use Rattle.sequences.proofs.Basics.{length, getD}
 use lib.Ieee.{Float, nan, binary32}
 use Rattle.refusal.specs.declared.Verdict.{Verdict}
 use Rattle.refusal.specs.declared.Verdict.the-variants.{Accepted}
@@ -58,8 +51,7 @@ use Rattle.accuracy.proofs.Taken.{exact-size, power-taken}
 same-plan : (p q : Record) → isPlanned p ≡ true → isPlanned q ≡ true → p .n ≡ q .n → p ≡ q
 unfolding recordOf
 same-plan p q u v e =
-    let x = passes-plannable p u in
-    let y = passes-plannable q v in
+    let x = passes-plannable p u in let y = passes-plannable q v in
     sym (x .2) ∙ record-depends-on-n (x .0) (y .0) (x .1) (y .1) (ap (λ (z : Record). z .n) (x .2) ∙ e ∙ ap (λ (z : Record). z .n) (sym (y .2))) ∙ y .2
 
 abbrev plan-960 : Record
@@ -100,7 +92,8 @@ error-6720 = lit≤ tt
 by-size : (A M D Y T : ℕ) → 0 < A → 1023 * ((A * (M + D) - A * D) * (A * (M + D) - A * D)) ≤ 1024 * (Y * (A * A)) * T → 1023 * (M * M) ≤ 1024 * Y * T
 by-size A M D Y T pos h =
     let e : A * (M + D) - A * D ≡ A * M = omega arith in
-    le-of-mul-le-mul-right {m = 1023 * (M * M)} (le-trans (le-of-eq (order₁ A M)) (le-trans (subst (λ (n : ℕ). 1023 * (n * n) ≤ 1024 * (Y * (A * A)) * T) e h) (le-of-eq (order₂ A Y T)))) (mul-pos pos pos)
+    le-of-mul-le-mul-right {m = 1023 * (M * M)} (le-trans (le-of-eq (order₁ A M))
+    (le-trans (subst (λ (n : ℕ). 1023 * (n * n) ≤ 1024 * (Y * (A * A)) * T) e h) (le-of-eq (order₂ A Y T)))) (mul-pos pos pos)
   where
     order₁ : (A M : ℕ) → 1023 * (M * M) * (A * A) ≡ 1023 * (A * M * (A * M))
     order₁ A M = omega arith
@@ -111,15 +104,16 @@ by-size A M D Y T pos h =
 -- ---- the error of a plan's run
 
 run-error : (p : Record) → isPlanned p ≡ true → error (inUse p) (length (inUse p)) ≤ p .count * (15 * 2 ^ 56 + 2 ^ 51)
-run-error p planned =
-    subst (λ (n : ℕ). error (inUse p) (length (inUse p)) ≤ n * (15 * 2 ^ 56 + 2 ^ 51)) (use-length p planned)
-    (error-stages (inUse p) (λ j l. use-radix-few p planned j (subst (λ (n : ℕ). j < n) (use-length p planned) l)) (length (inUse p)) (le-refl (length (inUse p))))
+run-error p planned = subst (λ (n : ℕ). error (inUse p) (length (inUse p)) ≤ n * (15 * 2 ^ 56 + 2 ^ 51)) (use-length p planned)
+    (error-stages (inUse p) (λ j l. use-radix-few p planned j (subst (λ (n : ℕ). j < n) (use-length p planned) l)) (length (inUse p))
+    (le-refl (length (inUse p))))
 
 -- ---- the distance
 
 -- an accepted forward call, lent the twiddles that an accepted filling left
 module _ (p : Record) (W : ℕ) (lent : Slices) (v : Verdict) (tw : Slices) (fills : Fills Forward p W lent v tw) (filled : v ≡ Accepted)
-    (xs : List Float) (before : Slices) (r₀ : Verdict) (after : Slices) (call : Forwards p W (tw .0) (tw .1) xs before r₀ after) (e : r₀ ≡ Accepted) (words : F32s xs) where
+    (xs : List Float) (before : Slices) (r₀ : Verdict) (after : Slices) (call : Forwards p W (tw .0) (tw .1) xs before r₀ after) (e : r₀ ≡ Accepted)
+    (words : F32s xs) where
   planned : isPlanned p ≡ true
   planned = taken p W (length (lent .0)) (length (lent .1)) v (fills .answer) filled .planned
 
@@ -150,14 +144,21 @@ module _ (p : Record) (W : ℕ) (lent : Slices) (v : Verdict) (tw : Slices) (fil
 
   module _ (b : ℕ) (few : b ≤ 164) (small : Sized b xs) where
     sizes : (u : ℕ) → u < p .half → Disc (2 ^ 20 * (3 * 2 ^ (20 + b))) (paired (sample xs) u)
-    sizes u l = pair-disc b (getD xs (u * 2 + 0) nan) (getD xs (u * 2 + 1) nan) (small (u * 2 + 0) (omega (arith, long))) (small (u * 2 + 1) (omega (arith, long)))
+    sizes u l = pair-disc b (getD xs (u * 2 + 0) nan) (getD xs (u * 2 + 1) nan) (small (u * 2 + 0) (omega (arith, long)))
+        (small (u * 2 + 1) (omega (arith, long)))
 
     near-by : (F C : ℕ) → 2829 * E ≤ 2000 * F → 3 * (F + 13 * 2 ^ 56 + 2 ^ 50) ≤ 2 * C * 2 ^ 56 → (k : ℕ) → k ≤ p .half
-        → Held binary32 (cell (after .0) k .re) × Held binary32 (cell (after .0) k .im) × Off (C * (p .half * 2 ^ (77 + b))) (scaleG (2 ^ 60) (valC (cell (after .0) k))) (exactBin (p .half) xs k)
+        → Held binary32 (cell (after .0) k .re) × Held binary32 (cell (after .0) k .im)
+        × Off (C * (p .half * 2 ^ (77 + b))) (scaleG (2 ^ 60) (valC (cell (after .0) k))) (exactBin (p .half) xs k)
     near-by F C root room k lk =
-        let o = bin-near p W lent v tw fills filled xs before r₀ after call e held (λ u. 3 * 2 ^ (20 + b)) sizes (λ u m. weight-least b) (weight-most (p .half) b (plan-half p planned .1) few)
-        F (root-of-two (2 ^ 60) E F (lit≤ tt) root) k lk in
-        (o .0, o .1, off-more _ _ _ _ (le-trans (le-of-eq (ap (λ (n : ℕ). (F + 13 * 2 ^ 56 + 2 ^ 50) * n) (constant (p .half) (3 * 2 ^ (20 + b))))) (scaled (F + 13 * 2 ^ 56 + 2 ^ 50) C (p .half) b room)) (o .2))
+        let o = bin-near p W lent v tw fills filled xs before r₀ after call e held (λ u. 3 * 2 ^ (20 + b)) sizes (λ u m. weight-least b)
+        (weight-most (p .half) b (plan-half p planned .1) few)
+        F (root-of-two (2 ^ 60) E F (lit≤ tt) root) k lk in (
+          o .0,
+          o .1,
+          off-more _ _ _ _ (le-trans (le-of-eq (ap (λ (n : ℕ). (F + 13 * 2 ^ 56 + 2 ^ 50) * n) (constant (p .half) (3 * 2 ^ (20 + b)))))
+              (scaled (F + 13 * 2 ^ 56 + 2 ^ 50) C (p .half) b room)) (o .2),
+        )
 
     -- every number of a bin is a whole number of units
     pub forward-held : (k : ℕ) → k ≤ p .half → Held binary32 (cell (after .0) k .re) × Held binary32 (cell (after .0) k .im)
@@ -168,7 +169,8 @@ module _ (p : Record) (W : ℕ) (lent : Slices) (v : Verdict) (tw : Slices) (fil
     forward-accurate k lk = near-by F (factor (p .count)) stages (enough (p .count)) k lk .2
 
     -- so each part of it is
-    pub forward-parts : (k : ℕ) → k ≤ p .half → NearZ (distance (p .count) (p .half) b) (scale (2 ^ 60) (val binary32 (cell (after .0) k .re))) (exactBin (p .half) xs k .re)
+    pub forward-parts : (k : ℕ) → k ≤ p .half → NearZ (distance (p .count) (p .half) b) (scale (2 ^ 60) (val binary32 (cell (after .0) k .re)))
+        (exactBin (p .half) xs k .re)
         × NearZ (distance (p .count) (p .half) b) (scale (2 ^ 60) (val binary32 (cell (after .0) k .im))) (exactBin (p .half) xs k .im)
     forward-parts k lk =
         let o = forward-accurate k lk in (
@@ -215,31 +217,37 @@ module _ (p : Record) (W : ℕ) (lent : Slices) (v : Verdict) (tw : Slices) (fil
   abs-most i l = le-trans (le-of-eq (sym (mag-abs binary32 (getD xs i nan)))) (sized-accepted i (omega (arith, long)))
 
   room : factor (p .count) * (p .half * 2 ^ (77 + 140)) + p .half * 2 * (2 * 2 ^ 180 * (2 ^ 60 + 1)) ≤ 2 ^ 60 * (2 ^ 48 * 2 ^ 149)
-  room = le-trans (add-le-add (mul-le-mul (stage-count (p .count) (plan-order p planned .few)) (mul-le-mul-right (2 ^ (77 + 140)) (plan-half p planned .1))) (mul-le-mul-right (2 * 2 ^ 180 * (2 ^ 60 + 1)) (mul-le-mul-right 2 (plan-half p planned .1)))) (lit≤ tt)
+  room = le-trans (add-le-add (mul-le-mul (stage-count (p .count) (plan-order p planned .few)) (mul-le-mul-right (2 ^ (77 + 140)) (plan-half p planned .1)))
+      (mul-le-mul-right (2 * 2 ^ 180 * (2 ^ 60 + 1)) (mul-le-mul-right 2 (plan-half p planned .1)))) (lit≤ tt)
     where
       stage-count : (j : ℕ) → j ≤ 13 → factor j ≤ 449
       stage-count j l = omega arith
 
   -- No number of it is above 2 ^ 48: whatever bins of it are asked for, in order and at hand, power does not refuse.
   pub power-takes-it : (lo hi : ℕ) → lo ≤ hi → hi ≤ p .half → powerVerdict (after .0) lo hi ≡ Accepted
-  power-takes-it =
-      power-taken (after .0) (p .half) (distance (p .count) (p .half) 140) (p .half * 2 * (2 * 2 ^ 180 * (2 ^ 60 + 1))) (exactBin (p .half) xs)
-      (bins-long p W lent v tw fills filled xs before r₀ after call e) (plan-half p planned .0) (plan-half p planned .1) (forward-held 140 (lit≤ tt) sized-accepted) (forward-accurate 140 (lit≤ tt) sized-accepted)
+  power-takes-it = power-taken (after .0) (p .half) (distance (p .count) (p .half) 140) (p .half * 2 * (2 * 2 ^ 180 * (2 ^ 60 + 1))) (exactBin (p .half) xs)
+      (bins-long p W lent v tw fills filled xs before r₀ after call e) (plan-half p planned .0) (plan-half p planned .1)
+      (forward-held 140 (lit≤ tt) sized-accepted) (forward-accurate 140 (lit≤ tt) sized-accepted)
       (λ k l. exact-size (6720 / (2 * p .half)) (p .half) (sample xs) (2 * 2 ^ 180) abs-most k) room
 
   pub power-accepts-it : (lo hi : ℕ) (s : Summed) → Powers (after .0) lo hi s → lo ≤ hi → hi ≤ p .half → s .verdict ≡ Accepted
-  power-accepts-it lo hi s sum order inside = ap (λ (z : Summed). z .verdict) (sum .answer ∙ ap (λ (u : Verdict). summed u (powerFrom (after .0) lo (hi + 1 - lo))) (power-takes-it lo hi order inside))
+  power-accepts-it lo hi s sum order inside = ap (λ (z : Summed). z .verdict)
+      (sum .answer ∙ ap (λ (u : Verdict). summed u (powerFrom (after .0) lo (hi + 1 - lo))) (power-takes-it lo hi order inside))
 
   -- ---- lines, in what power answers of that spectrum
 
   module _ (b : ℕ) (few : b ≤ 164) (small : Sized b xs) (lo hi : ℕ) (s : Summed) (sum : Powers (after .0) lo hi s) (inside : hi ≤ p .half) where
     -- The samples go along a tone at bin k of the band by C: the power answered is at least 1023 / 1024 of C / A less the distance, squared, less two units.
     pub line-seen : (k : ℕ) → lo ≤ k → k ≤ hi → (r : Gauss) (A C : ℕ) → Correlates (p .half) xs k r A C
-        → (S : ℕ) × IsUnits S (s .power) × (1023 * ((C - A * distance (p .count) (p .half) b) * (C - A * distance (p .count) (p .half) b)) ≤ 1024 * (2 ^ 60 * 2 ^ 60 * 2 ^ 149 * (A * A)) * (S + 2))
+        → (S : ℕ) × IsUnits S (s .power)
+        × (1023 * ((C - A * distance (p .count) (p .half) b) * (C - A * distance (p .count) (p .half) b)) ≤ 1024 * (2 ^ 60 * 2 ^ 60 * 2 ^ 149 * (A * A)) *
+        (S + 2))
     line-seen k lk kh r A C c =
-        seen-in (after .0) (p .half) (distance (p .count) (p .half) b) (exactBin (p .half) xs) (bins-long p W lent v tw fills filled xs before r₀ after call e) (forward-held b few small) (forward-accurate b few small) lo hi s sum
+        seen-in (after .0) (p .half) (distance (p .count) (p .half) b) (exactBin (p .half) xs) (bins-long p W lent v tw fills filled xs before r₀ after call e)
+        (forward-held b few small) (forward-accurate b few small) lo hi s sum
         (power-accepts-it lo hi s sum (le-trans lk kh) inside) k lk kh r A C (c .size)
-        (moved C _ (sumZ (p .half * 2) (λ i. timesZ (sample xs i) (tone house (6720 / (2 * p .half)) k r i))) (correlation house (6720 / (2 * p .half)) (p .half) (sample xs) k r) (c .enough))
+        (moved C _ (sumZ (p .half * 2) (λ i. timesZ (sample xs i) (tone house (6720 / (2 * p .half)) k r i)))
+        (correlation house (6720 / (2 * p .half)) (p .half) (sample xs) k r) (c .enough))
       where
         moved : (C : ℕ) (u v : Signed) → NearZ 0 u v → C + v .less ≤ v .more → C + u .less ≤ u .more
         moved C u v e h = omega arith
@@ -253,9 +261,12 @@ module _ (p : Record) (W : ℕ) (lent : Slices) (v : Verdict) (tw : Slices) (fil
 
     -- Every exact bin of the band is at most M: the power answered is at most 513 / 512 of M and the distance, squared, for each bin, and two units.
     pub quiet-stays-quiet : lo ≤ hi → (M : ℕ) → ((k : ℕ) → lo ≤ k → k ≤ hi → Disc M (exactBin (p .half) xs k))
-        → (S : ℕ) × IsUnits S (s .power) × (512 * (2 ^ 60 * 2 ^ 60 * 2 ^ 149 * S) ≤ 513 * ((hi + 1 - lo) * ((distance (p .count) (p .half) b + M) * (distance (p .count) (p .half) b + M) + 2 * (2 ^ 60 * 2 ^ 60 * 2 ^ 149))))
+        → (S : ℕ) × IsUnits S (s .power)
+        × (512 * (2 ^ 60 * 2 ^ 60 * 2 ^ 149 * S) ≤ 513 * ((hi + 1 - lo) *
+        ((distance (p .count) (p .half) b + M) * (distance (p .count) (p .half) b + M) + 2 * (2 ^ 60 * 2 ^ 60 * 2 ^ 149))))
     quiet-stays-quiet order M each =
-        quiet-in (after .0) (p .half) (distance (p .count) (p .half) b) (exactBin (p .half) xs) (bins-long p W lent v tw fills filled xs before r₀ after call e) (forward-held b few small) (forward-accurate b few small) lo hi s sum
+        quiet-in (after .0) (p .half) (distance (p .count) (p .half) b) (exactBin (p .half) xs) (bins-long p W lent v tw fills filled xs before r₀ after call e)
+        (forward-held b few small) (forward-accurate b few small) lo hi s sum
         (power-accepts-it lo hi s sum order inside) M each
 
   -- ---- in the hive's words: 1,680 samples of 16 bits, divided by 32,768
@@ -278,7 +289,8 @@ module _ (p : Record) (W : ℕ) (lent : Slices) (v : Verdict) (tw : Slices) (fil
         let M = 13634880 * 2 ^ 185 in
         let same : 840 * 2 ^ 199 ≡ M + distance (p .count) (p .half) 108 = rw hive-distance refl in
         let c' : Correlates (p .half) xs k r A (A * (M + distance (p .count) (p .half) 108)) =
-        subst (λ (n : ℕ). Correlates (p .half) xs k r A (A * n)) same (subst (λ (q : Record). Correlates (q .half) xs k r A (A * (840 * 2 ^ 199))) (sym hive-plan) c) in
+        subst (λ (n : ℕ). Correlates (p .half) xs k r A (A * n)) same
+        (subst (λ (q : Record). Correlates (q .half) xs k r A (A * (840 * 2 ^ 199))) (sym hive-plan) c) in
         let o = line-heard 108 (lit≤ tt) (sixteen-sized xs sixteen) lo hi s sum hive-inside k lk kh r A M pos c' in
         (o .0, o .1, at-least (65 * 2 ^ 149) (1024 * (2 ^ 60 * 2 ^ 60 * 2 ^ 149)) (1023 * (M * M)) (o .0) (lit< tt) (o .2) (lit≤ tt))
 
@@ -300,7 +312,8 @@ module _ (p : Record) (W : ℕ) (lent : Slices) (v : Verdict) (tw : Slices) (fil
 
 -- an accepted inverse call, lent the twiddles that an accepted inverse filling left
 module _ (p : Record) (W : ℕ) (lent : Slices) (v : Verdict) (tw : Slices) (fills : Fills Inverse p W lent v tw) (filled : v ≡ Accepted)
-    (xs : List Float) (before : Slices) (r₀ : Verdict) (after : Slices) (call : Inverts p W (tw .0) (tw .1) xs before r₀ after) (e : r₀ ≡ Accepted) (words : F32s xs) where
+    (xs : List Float) (before : Slices) (r₀ : Verdict) (after : Slices) (call : Inverts p W (tw .0) (tw .1) xs before r₀ after) (e : r₀ ≡ Accepted)
+    (words : F32s xs) where
   back-planned : isPlanned p ≡ true
   back-planned = taken p W (length (lent .0)) (length (lent .1)) v (fills .answer) filled .planned
 
@@ -323,9 +336,9 @@ module _ (p : Record) (W : ℕ) (lent : Slices) (v : Verdict) (tw : Slices) (fil
         record {
           re = back-held (2 * k) (omega (arith, bin-words));
           im = back-held (2 * k + 1) (omega (arith, bin-words));
-          disc =
-              subst (λ (n : ℕ). Disc (2 ^ 20 * n) (valC (cell xs k))) (tenth b)
-              (pair-disc b (getD xs (2 * k) nan) (getD xs (2 * k + 1) nan) (small (2 * k) (omega (arith, bin-words))) (small (2 * k + 1) (omega (arith, bin-words))));
+          disc = subst (λ (n : ℕ). Disc (2 ^ 20 * n) (valC (cell xs k))) (tenth b)
+              (pair-disc b (getD xs (2 * k) nan) (getD xs (2 * k + 1) nan) (small (2 * k) (omega (arith, bin-words)))
+              (small (2 * k + 1) (omega (arith, bin-words))));
         }
 
     -- Sample j is within (64 stages + 25) h B / 2 ^ 24 of the exact sum over the bins, where the bins' numbers are at most B = 2 ^ (b - 108).
@@ -333,16 +346,17 @@ module _ (p : Record) (W : ℕ) (lent : Slices) (v : Verdict) (tw : Slices) (fil
         × NearZ (inverseDistance (p .count) (p .half) b) (scale (2 ^ 60) (val binary32 (getD (after .0) j nan))) (exactSample (p .half) xs j)
     inverse-accurate j l =
         let u = j / 2 in
-        let o = pair-near p W lent v tw fills filled xs before r₀ after call e a bin-around (tenth-least b) (tenth-most (p .half) b (plan-half p back-planned .1) few) u (omega arith) in
+        let o = pair-near p W lent v tw fills filled xs before r₀ after call e a bin-around (tenth-least b)
+        (tenth-most (p .half) b (plan-half p back-planned .1) few) u (omega arith) in
         let w = inverse-total (error (inUse p) (length (inUse p))) (p .count) (p .half) b (run-error p back-planned) in
-        dite (decLe (j % 2) 0)
-        (λ (g : j % 2 ≤ 0).
+        dite (decLe (j % 2) 0) (λ (g : j % 2 ≤ 0).
         let at : 2 * u ≡ j = omega arith in
-        subst (λ (i : ℕ). Held binary32 (getD (after .0) i nan) × NearZ (inverseDistance (p .count) (p .half) b) (scale (2 ^ 60) (val binary32 (getD (after .0) i nan))) (exactSample (p .half) xs i)) at
-        (o .0, near-more _ _ _ _ w (o .2)))
-        (λ (g : j % 2 ≤ 0 → ⊥).
+        subst (λ (i : ℕ). Held binary32 (getD (after .0) i nan) × NearZ (inverseDistance (p .count) (p .half) b)
+        (scale (2 ^ 60) (val binary32 (getD (after .0) i nan))) (exactSample (p .half) xs i)) at
+        (o .0, near-more _ _ _ _ w (o .2))) (λ (g : j % 2 ≤ 0 → ⊥).
         let at : 2 * u + 1 ≡ j = omega (arith, g) in
-        subst (λ (i : ℕ). Held binary32 (getD (after .0) i nan) × NearZ (inverseDistance (p .count) (p .half) b) (scale (2 ^ 60) (val binary32 (getD (after .0) i nan))) (exactSample (p .half) xs i)) at
+        subst (λ (i : ℕ). Held binary32 (getD (after .0) i nan) × NearZ (inverseDistance (p .count) (p .half) b)
+        (scale (2 ^ 60) (val binary32 (getD (after .0) i nan))) (exactSample (p .half) xs i)) at
         (o .1, near-more _ _ _ _ w (o .3)))
 
 -- what is read from memory is of f32s

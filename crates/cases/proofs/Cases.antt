@@ -1,12 +1,6 @@
 -- The twelve cases hold: what the promises leave open is lifted first, and the rest is by computation. Assumes nothing.
-use Prim.Native.Nat.{ℕ, _+_, _-_, _*_}
-use mathlib.Core.Path.{_≡_, refl, sym, ap, ap₂, subst, _∙_}
-use mathlib.Core.Bool.{true, false}
-use mathlib.Core.List.{List, []}
-use borrow.Author.Tests.{le-ltb}
-use lib.Dec.{ltb}
+use Rattle.sequences.proofs.Basics.{_≡_, refl, sym, ap, ap₂, subst, _∙_, ℕ, _+_, _-_, _*_, true, false, List, [], ltb, length, le-ltb}
 use lib.Ieee.{Float, ofInt, ofBits, add, sub, mul, neg}
-use lib.ListN.{length}
 use Rattle.refusal.specs.Refusal.{left}
 use Rattle.refusal.specs.declared.Refusal.{Refusal}
 use Rattle.refusal.specs.declared.Refusal.the-variants.{Base}
@@ -53,8 +47,7 @@ module _ {list : List ℕ} where
       → runVerdict (planOf list) m w xs h ≡ Accepted
       → ((scratch : List ℕ) → heldIn (resultIn (planOf list .count)) (runOf (planOf list) m w (xs, scratch)) ≡ ys)
       → (a : Planned) → Plans list a → Sums h m w xs ys (a .plan)
-  sums {h} {m} {w} {xs} {ys} long by v made =
-      promised (λ a. Sums h m w xs ys (a .plan))
+  sums {h} {m} {w} {xs} {ys} long by v made = promised (λ a. Sums h m w xs ys (a .plan))
       (record {
         half = long;
         stages = by;
@@ -66,8 +59,7 @@ module _ {list : List ℕ} where
   -- a run that is refused whatever it is lent
   refuses : {h m w n k : ℕ} → (why : Refusal) → planOf list .half ≡ h → ((xs : List ℕ) (room : ℕ) → runVerdict (planOf list) m w xs room ≡ Refused why)
       → Gives n k (Refused why) → (a : Planned) → Plans list a → Refuses h m w n k (a .plan)
-  refuses {h} {m} {w} {n} {k} why long v given =
-      promised (λ a. Refuses h m w n k (a .plan))
+  refuses {h} {m} {w} {n} {k} why long v given = promised (λ a. Refuses h m w n k (a .plan))
       (record {
         half = long;
         runs = λ before r after s.
@@ -77,15 +69,15 @@ module _ {list : List ℕ} where
 
   -- what accepted transforms make, whatever the width and the scratch
   transforms : {samples : List Float} {bins : List Complex} {again : List Float} {sum : Float}
-      → ((W room : ℕ) → isWidth W ≡ true → ltb room (6 * length samples) ≡ false → forwardVerdict (planOf list) W samples (2 * length bins) room [] [] ≡ Accepted)
+      → ((W room : ℕ) → isWidth W ≡ true → ltb room (6 * length samples) ≡ false
+      → forwardVerdict (planOf list) W samples (2 * length bins) room [] [] ≡ Accepted)
       → ((W : ℕ) (scratch : List Float) → forwardOf (planOf list) W [] [] samples scratch .0 ≡ flat bins)
-      → ((W room : ℕ) → isWidth W ≡ true → ltb room (6 * length samples) ≡ false → inverseVerdict (planOf list) W (flat bins) (length again) room [] [] ≡ Accepted)
+      → ((W room : ℕ) → isWidth W ≡ true → ltb room (6 * length samples) ≡ false
+      → inverseVerdict (planOf list) W (flat bins) (length again) room [] [] ≡ Accepted)
       → ((W : ℕ) (scratch : List Float) → inverseOf (planOf list) W [] [] (flat bins) scratch (length again) .0 ≡ again)
-      → powerVerdict (flat bins) 0 (planOf list .half) ≡ Accepted
-      → powerFrom (flat bins) 0 (planOf list .half + 1 - 0) ≡ sum
+      → powerVerdict (flat bins) 0 (planOf list .half) ≡ Accepted → powerFrom (flat bins) 0 (planOf list .half + 1 - 0) ≡ sum
       → (a : Planned) → Plans list a → Transforms samples bins again sum (a .plan)
-  transforms {samples} {bins} {again} {sum} vf f vi i vp e =
-      promised (λ a. Transforms samples bins again sum (a .plan))
+  transforms {samples} {bins} {again} {sum} vf f vi i vp e = promised (λ a. Transforms samples bins again sum (a .plan))
       (record {
         forward = λ W width before o l r after s.
             let taken : forwardVerdict (planOf list) W samples (length (before .0)) (length (before .1)) [] [] ≡ Accepted
@@ -107,10 +99,12 @@ x & y = (x, y)
 infixr 60 _&_
 -- every case of the table
 pub cases-hold : All Holds table
-unfolding planned planVerdict firstBad firstThat isRadix firstOver product refusedPlan acceptedPlan recordOf factors half halving halved indexOf tally countOf rules rulesUpTo firstRule applies merge mergedBy merged letters sorted padded isPlanned inOrder sized eqList runVerdict firstLarge resultIn driven alternated inUse radix stride run stage stageBy tabulate output iteration place plain total read twiddledIn kernelTurn twiddleTurn residues turn lentVerdict twiddleCount twiddleStart endCount firstUnfit fits forwardOf forwardRun inverseOf inverseRun preparedOf conjugated ended endCell flat paired stageOf floats Turns.turnOf Turns.turnAt Turns.indexOf powerVerdict powerFrom add sub mul neg ofInt ofBits
-cases-hold =
-    promised _ (record { number = refl; place = refl })
-    & promised _ (record { number = refl; place = refl })
+unfolding planned planVerdict firstBad firstThat isRadix firstOver product refusedPlan acceptedPlan recordOf factors half halving halved indexOf tally countOf
+    rules rulesUpTo firstRule applies merge mergedBy merged letters sorted padded isPlanned inOrder sized eqList runVerdict firstLarge resultIn driven
+    alternated inUse radix stride run stage stageBy tabulate output iteration place plain total read twiddledIn kernelTurn twiddleTurn residues turn
+    lentVerdict twiddleCount twiddleStart endCount firstUnfit fits forwardOf forwardRun inverseOf inverseRun preparedOf conjugated ended endCell flat paired
+    stageOf floats Turns.turnOf Turns.turnAt Turns.indexOf powerVerdict powerFrom add sub mul neg ofInt ofBits
+cases-hold = promised _ (record { number = refl; place = refl }) & promised _ (record { number = refl; place = refl })
     & promised _ (record { number = refl; place = refl })
     & promised _ (record { number = refl; place = refl })
     & promised _ (record { verdict = refl; count = refl; radices = refl; merges = refl })

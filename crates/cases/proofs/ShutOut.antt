@@ -1,8 +1,5 @@
 -- Wrong programs that the promises of planning shut out: merge counts and twiddle counts made up. Assumes nothing.
-use Prim.Native.Nat.{ℕ}
-use native.Mathlib.Omega.{arith}
-use mathlib.Core.Path.{_≡_, refl, ap, _∙_}
-use mathlib.Core.List.{List, [], _∷_}
+use Rattle.sequences.proofs.Basics.{_≡_, refl, ap, _∙_, ℕ, arith, List, [], _∷_}
 use Rattle.counts.specs.Counts.{radix, twiddleCount, twiddleStart, stageTwiddles, endCount, recordVerdict, counted, CountsStage, CountsEnd}
 use Rattle.merging.specs.Half.{halving, halved, half}
 use Rattle.radices.specs.Lists.{isRadix, product, firstBad, indexOf, firstOver, countOf, padded, eqList}
@@ -15,11 +12,13 @@ use Rattle.plan.specs.declared.Planned.{Planned}
 -- ---- merges
 
 merges-2222 : planned (2 ∷ 2 ∷ 2 ∷ 2 ∷ []) .merges .count ≡ 1
-unfolding planned planVerdict firstBad firstThat isRadix firstOver product acceptedPlan half halving halved indexOf tally countOf rules rulesUpTo firstRule applies merge letters marked
+unfolding planned planVerdict firstBad firstThat isRadix firstOver product acceptedPlan half halving halved indexOf tally countOf rules rulesUpTo firstRule
+    applies merge letters marked
 merges-2222 = refl
 
 merges-4444 : planned (4 ∷ 4 ∷ 4 ∷ 4 ∷ []) .merges .count ≡ 2
-unfolding planned planVerdict firstBad firstThat isRadix firstOver product acceptedPlan half halving halved indexOf tally countOf rules rulesUpTo firstRule applies merge letters marked
+unfolding planned planVerdict firstBad firstThat isRadix firstOver product acceptedPlan half halving halved indexOf tally countOf rules rulesUpTo firstRule
+    applies merge letters marked
 merges-4444 = refl
 
 -- one count of merges for every list
@@ -52,15 +51,18 @@ counts list stage end e f =
 
 -- n 640, radices 5, 8, 8
 pub counts-640 : Counts (2 ∷ 5 ∷ 8 ∷ 8 ∷ []) 560 159
-unfolding planned planVerdict firstBad firstThat isRadix firstOver product acceptedPlan recordOf factors half halving halved indexOf tally countOf rules rulesUpTo mergedBy merged sorted padded recordVerdict isPlanned inOrder sized eqList radix twiddleCount twiddleStart endCount
+unfolding planned planVerdict firstBad firstThat isRadix firstOver product acceptedPlan recordOf factors half halving halved indexOf tally countOf rules
+    rulesUpTo mergedBy merged sorted padded recordVerdict isPlanned inOrder sized eqList radix twiddleCount twiddleStart endCount
 counts-640 = counts _ _ _ refl refl
 
 -- n 588, radices 2, 3, 7, 7
 pub counts-588 : Counts (4 ∷ 3 ∷ 7 ∷ 7 ∷ []) 700 146
-unfolding planned planVerdict firstBad firstThat isRadix firstOver product acceptedPlan recordOf factors half halving halved indexOf tally countOf rules rulesUpTo firstRule applies mergedBy merged sorted padded recordVerdict isPlanned inOrder sized eqList radix twiddleCount twiddleStart endCount
+unfolding planned planVerdict firstBad firstThat isRadix firstOver product acceptedPlan recordOf factors half halving halved indexOf tally countOf rules
+    rulesUpTo firstRule applies mergedBy merged sorted padded recordVerdict isPlanned inOrder sized eqList radix twiddleCount twiddleStart endCount
 counts-588 = counts _ _ _ refl refl
 
-module _ (a b : Planned) (p : Plans (2 ∷ 5 ∷ 8 ∷ 8 ∷ []) a) (q : Plans (4 ∷ 3 ∷ 7 ∷ 7 ∷ []) b) (c : ℕ) (r s : Counted) (e : r .count ≡ c) (f : s .count ≡ c) where
+module _ (a b : Planned) (p : Plans (2 ∷ 5 ∷ 8 ∷ 8 ∷ []) a) (q : Plans (4 ∷ 3 ∷ 7 ∷ 7 ∷ []) b) (c : ℕ) (r s : Counted) (e : r .count ≡ c)
+    (f : s .count ≡ c) where
   -- one count of stage twiddles for every plan
   pub one-stage-count : CountsStage (a .plan) r → CountsStage (b .plan) s → ⊥
   one-stage-count u v = omega (arith, e, f, counts-640 .stages a p r u, counts-588 .stages b q s v)

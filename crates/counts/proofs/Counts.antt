@@ -1,13 +1,6 @@
 -- Laws of an accepted plan's stages: bounds of its radices, strides and counts, and sums over stages. Assumes nothing.
-use Prim.Native.Nat.{ℕ, zero, suc, _+_, _-_, _*_, _/_, _<_, _≤_, _%_}
-use native.Mathlib.Nat.{mul-le-mul, mul-le-mul-left, mul-one, div-le-self, add-zero}
-use native.Mathlib.Numerals.{add-one}
-use native.Mathlib.Omega.{arith}
-use mathlib.Core.Path.{_≡_, refl, sym, ap, _∙_}
-use mathlib.Core.Bool.{true, false, Bool, cond}
-use mathlib.Core.List.{List}
-use lib.ListN.{getD, take, drop, take-append-drop}
-use lib.Seq.{take-take}
+use Rattle.sequences.proofs.Basics.{_≡_, refl, sym, ap, _∙_, ℕ, zero, suc, _+_, _-_, _*_, _/_, _<_, _≤_, _%_, mul-le-mul, mul-le-mul-left, mul-one, div-le-self}
+use Rattle.sequences.proofs.Basics.{add-zero, add-one, arith, true, false, Bool, cond, List, eqb, getD, take, drop, take-append-drop, take-take, eqb-false}
 use Rattle.radices.specs.Lists.{product}
 use Rattle.plan.specs.Record.{isPlanned}
 use Rattle.counts.specs.Counts.{radix, stride, twiddleCount, twiddleStart, recordVerdict, endCount}
@@ -16,15 +9,13 @@ use Rattle.radices.proofs.Lists.{product-append, product-next, getD-any}
 use Rattle.radices.proofs.Products.{Radical, radical-parts, product-positive}
 use Rattle.refusal.specs.declared.Refusal.the-variants.{NotPlanned}
 use Rattle.refusal.specs.declared.Verdict.the-variants.{Accepted, Refused}
-use lib.Dec.{eqb}
-use borrow.Author.Tests.{eqb-false}
 use Rattle.plan.proofs.Bounds.{plan-order, plan-sized, plan-half, plan-long, plan-radical, plan-radix-bounds}
 
 product-prefix : (xs : List ℕ) (i : ℕ) → Radical xs → product (take i xs) ≤ product xs
 product-prefix xs i r =
-    let whole = take-append-drop i xs in
-    let parts = radical-parts (take i xs) (drop i xs) (rw whole r) in
-    let one : product (take i xs) * 1 ≤ product (take i xs) * product (drop i xs) = mul-le-mul-left (product (take i xs)) (product-positive (drop i xs) (parts .1)) in
+    let whole = take-append-drop i xs in let parts = radical-parts (take i xs) (drop i xs) (rw whole r) in
+    let one : product (take i xs) * 1 ≤ product (take i xs) * product (drop i xs) =
+    mul-le-mul-left (product (take i xs)) (product-positive (drop i xs) (parts .1)) in
     omega (arith, mul-one (product (take i xs)), sym (product-append (take i xs) (drop i xs)) ∙ ap product whole)
 
 pub count-first : (h : ℕ) (rs : List ℕ) (j : ℕ) → j ≡ 0 → 0 ≡ twiddleCount h rs j
@@ -67,7 +58,8 @@ module _ (p : Record) (e : isPlanned p ≡ true) where
   unfolding stride
   stride-small i h =
       let cut = take-take i (p .count) (p .radices) h in
-      let b : product (take i (p .radices)) ≤ product (take (p .count) (p .radices)) = rw (← cut) (product-prefix (take (p .count) (p .radices)) i (plan-radical p e)) in
+      let b : product (take i (p .radices)) ≤ product (take (p .count) (p .radices)) =
+      rw (← cut) (product-prefix (take (p .count) (p .radices)) i (plan-radical p e)) in
       omega (arith, plan-half p e, plan-sized p e .made)
 
   pub stride-next : (i : ℕ) → i < p .count → stride (p .radices) (i + 1) ≡ stride (p .radices) i * getD (p .radices) i 0
@@ -76,19 +68,16 @@ module _ (p : Record) (e : isPlanned p ≡ true) where
 
   -- ---- twiddles
 
-  pub count-later : (j : ℕ) → (j ≡ 0 → ⊥) → j < p .count
-      → p .half / getD (p .radices) j 0 * (getD (p .radices) j 0 - 1) ≡ twiddleCount (p .half) (p .radices) j
+  pub count-later : (j : ℕ) → (j ≡ 0 → ⊥) → j < p .count → p .half / getD (p .radices) j 0 * (getD (p .radices) j 0 - 1) ≡ twiddleCount (p .half) (p .radices) j
   unfolding twiddleCount radix
   count-later zero n h = absurd (n refl)
-  count-later (suc j) n h =
-      rw (getD-any (p .radices) (suc j) 0 1 (omega (arith, plan-long p e)))
+  count-later (suc j) n h = rw (getD-any (p .radices) (suc j) 0 1 (omega (arith, plan-long p e)))
 
   pub count-small : (j : ℕ) → j < p .count → twiddleCount (p .half) (p .radices) j ≤ 28672
   unfolding twiddleCount
   count-small zero h = omega arith
   count-small (suc j) h =
-      let b = plan-radix-bounds p e (suc j) h in
-      let r = getD (p .radices) (suc j) 0 in
+      let b = plan-radix-bounds p e (suc j) h in let r = getD (p .radices) (suc j) 0 in
       let q : p .half / r * (r - 1) ≤ 4096 * 7 = mul-le-mul {n₂ = 4096} {m₂ = 7} (omega (arith, div-le-self (p .half) r, plan-half p e)) (omega (arith, b)) in
       omega (arith, q, count-later (suc j) (λ (z : suc j ≡ 0). omega arith) h)
 

@@ -1,6 +1,5 @@
 -- Which records are refused. Assumes nothing.
-use mathlib.Core.Path.{_≡_, refl}
-use mathlib.Core.Bool.{Bool, true, false}
+use Rattle.sequences.proofs.Basics.{_≡_, refl, Bool, true, false}
 use Rattle.refusal.specs.declared.Verdict.the-variants.{Accepted, Refused}
 use Rattle.refusal.specs.declared.Refusal.the-variants.{NotPlanned}
 use Rattle.plan.specs.declared.Record.{Record}

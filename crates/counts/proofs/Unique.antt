@@ -1,6 +1,5 @@
 -- Two answers that meet a promise are equal. Assumes nothing.
-use Prim.Native.Nat.{ℕ}
-use mathlib.Core.Path.{_≡_}
+use Rattle.sequences.proofs.Basics.{_≡_, ℕ}
 use Rattle.refusal.proofs.Unique.{agree}
 use Rattle.counts.specs.declared.Buffer.{Buffer}
 use Rattle.plan.specs.declared.Record.{Record}

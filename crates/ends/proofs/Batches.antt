@@ -1,14 +1,8 @@
 -- Laws of pairs taken several at a time: the cells of a row pasted into another, a batch pair by pair, and a batch put in its place. Assumes nothing.
-use Prim.Native.Nat.{ℕ, _+_, _-_, _*_, _≤_, _<_}
-use native.Mathlib.Nat.{not-suc-le-zero}
-use native.Mathlib.Omega.{arith}
-use native.Mathlib.Decide.{ℕ-discrete, decLe}
-use mathlib.Core.Logic.{_⊎_, inl, inr, ⊎-elim}
-use mathlib.Core.Path.{_≡_, sym, ap, ap₂, _∙_}
-use mathlib.Core.List.{List, _++_}
+use Rattle.sequences.proofs.Basics.{_≡_, sym, ap, ap₂, _∙_, ℕ, _+_, _-_, _*_, _≤_, _<_, not-suc-le-zero, arith, ℕ-discrete, decLe, _⊎_, inl, inr, ⊎-elim, List}
+use Rattle.sequences.proofs.Basics.{_++_, length, getD, take, drop, length-append, length-drop, List·getD-append, length-take-le, getD-append-add, getD-take}
+use Rattle.sequences.proofs.Basics.{getD-drop}
 use lib.Ieee.{Float, nan}
-use lib.ListN.{length, getD, take, drop, length-append, length-drop, List·getD-append}
-use lib.Seq.{length-take-le, getD-append-add, getD-take, getD-drop}
 use Rattle.floats.specs.Complexes.{cx, cell, putCell}
 use Rattle.floats.specs.Words.{pasted}
 use Rattle.floats.specs.declared.complex.Complex.{Complex}
@@ -34,24 +28,18 @@ module _ (ys zs : List Float) (at : ℕ) (room : at + length zs ≤ length ys) w
   length-pasted = length-append front (drop (at + length zs) ys) ∙ omega (arith, front-length, length-drop (at + length zs) ys)
 
   word-before : (i : ℕ) → i < at → getD (pasted ys at zs) i nan ≡ getD ys i nan
-  word-before i l =
-      List·getD-append front (drop (at + length zs) ys) nan i (omega (arith, front-length))
-      ∙ List·getD-append (take at ys) zs nan i (omega (arith, before))
-      ∙ getD-take at ys i nan l
+  word-before i l = List·getD-append front (drop (at + length zs) ys) nan i (omega (arith, front-length))
+      ∙ List·getD-append (take at ys) zs nan i (omega (arith, before)) ∙ getD-take at ys i nan l
 
   word-in : (i : ℕ) → i < length zs → getD (pasted ys at zs) (at + i) nan ≡ getD zs i nan
-  word-in i l =
-      List·getD-append front (drop (at + length zs) ys) nan (at + i) (omega (arith, front-length))
-      ∙ ap (λ (n : ℕ). getD front (n + i) nan) (sym before)
-      ∙ getD-append-add (take at ys) zs i nan
+  word-in i l = List·getD-append front (drop (at + length zs) ys) nan (at + i) (omega (arith, front-length))
+      ∙ ap (λ (n : ℕ). getD front (n + i) nan) (sym before) ∙ getD-append-add (take at ys) zs i nan
 
   word-after : (i : ℕ) → at + length zs ≤ i → getD (pasted ys at zs) i nan ≡ getD ys i nan
   word-after i l =
       let d = i - (at + length zs) in
       ap (λ (n : ℕ). getD (pasted ys at zs) n nan) {x = i} {y = length front + d} (omega (arith, front-length))
-      ∙ getD-append-add front (drop (at + length zs) ys) d nan
-      ∙ getD-drop (at + length zs) ys d nan
-      ∙ ap (λ (n : ℕ). getD ys n nan) (omega arith)
+      ∙ getD-append-add front (drop (at + length zs) ys) d nan ∙ getD-drop (at + length zs) ys d nan ∙ ap (λ (n : ℕ). getD ys n nan) (omega arith)
 
 -- its cells, where it goes to cell a and has n cells
 module _ (ys zs : List Float) (a n : ℕ) (size : length zs ≡ 2 * n) (room : 2 * (a + n) ≤ length ys) where
@@ -59,14 +47,11 @@ module _ (ys zs : List Float) (a n : ℕ) (size : length zs ≡ 2 * n) (room : 2
   fine = omega arith
 
   pub cell-in : (j : ℕ) → j < n → cell (pasted ys (2 * a) zs) (a + j) ≡ cell zs j
-  cell-in j l =
-      ap₂ cx
-      (ap (λ (i : ℕ). getD (pasted ys (2 * a) zs) i nan) (omega arith) ∙ word-in ys zs (2 * a) fine (2 * j) (omega arith))
+  cell-in j l = ap₂ cx (ap (λ (i : ℕ). getD (pasted ys (2 * a) zs) i nan) (omega arith) ∙ word-in ys zs (2 * a) fine (2 * j) (omega arith))
       (ap (λ (i : ℕ). getD (pasted ys (2 * a) zs) i nan) (omega arith) ∙ word-in ys zs (2 * a) fine (2 * j + 1) (omega arith))
 
   pub cell-out : (j : ℕ) → (j < a) ⊎ (a + n ≤ j) → cell (pasted ys (2 * a) zs) j ≡ cell ys j
-  cell-out j d =
-      ⊎-elim
+  cell-out j d = ⊎-elim
       (λ (l : j < a). ap₂ cx (word-before ys zs (2 * a) fine (2 * j) (omega arith)) (word-before ys zs (2 * a) fine (2 * j + 1) (omega arith)))
       (λ (l : a + n ≤ j). ap₂ cx (word-after ys zs (2 * a) fine (2 * j) (omega arith)) (word-after ys zs (2 * a) fine (2 * j + 1) (omega arith)))
       d
@@ -101,7 +86,8 @@ module _ (s : Steps) (h : ℕ) (tw xs : List Float) (k : ℕ) where
       back j lj (no q) = get-other b (31 - n) z (31 - j) (λ e. q (omega arith)) ∙ p .far j (omega (arith, q))
 
 -- two rows of n cells pasted: to cell k, and to end before cell h - k + 1
-module _ (h k n : ℕ) (some : 0 < k) (room : 2 * (k + n) < h + 2) (ys u v : List Float) (size : length ys ≡ 2 * (h + 1)) (lu : length u ≡ 2 * n) (lv : length v ≡ 2 * n) where
+module _ (h k n : ℕ) (some : 0 < k) (room : 2 * (k + n) < h + 2) (ys u v : List Float) (size : length ys ≡ 2 * (h + 1)) (lu : length u ≡ 2 * n)
+    (lv : length v ≡ 2 * n) where
   abbrev once : List Float
   once = pasted ys (2 * k) u
 
@@ -118,8 +104,7 @@ module _ (h k n : ℕ) (some : 0 < k) (room : 2 * (k + n) < h + 2) (ys u v : Lis
   twice-near j l = cell-out once v (h - k - n + 1) n lv (omega (arith, once-size)) (k + j) (inl (omega arith)) ∙ cell-in ys u k n lu (omega arith) j l
 
   twice-far : (j : ℕ) → j < n → cell twice (h - (k + j)) ≡ cell v (n - 1 - j)
-  twice-far j l =
-      ap (cell twice) {x = h - (k + j)} {y = h - k - n + 1 + (n - 1 - j)} (omega arith)
+  twice-far j l = ap (cell twice) {x = h - (k + j)} {y = h - k - n + 1 + (n - 1 - j)} (omega arith)
       ∙ cell-in once v (h - k - n + 1) n lv (omega (arith, once-size)) (n - 1 - j) (omega arith)
 
   twice-out : (j : ℕ) → (j < k) ⊎ (k + n ≤ j) → (j < h - k - n + 1) ⊎ (h - k + 1 ≤ j) → cell twice j ≡ cell ys j
@@ -132,10 +117,11 @@ module _ (s : Steps) (h : ℕ) (tw xs ys : List Float) (k n : ℕ) (a b u v : Li
   abbrev E : ℕ → Complex
   E j = endCell s h (cell xs) (endLent tw) j
 
-  pub stepped-batch : n ≤ 32 → 2 * (k + n) < h + 2 → length u ≡ 2 * n → length v ≡ 2 * n → ((j : ℕ) → j < n → cell u j ≡ cell a j) → ((j : ℕ) → j < n → cell v j ≡ cell b (32 - n + j))
-      → Batched s h tw xs k n a b → Stepped s h tw xs ys k → (ys′ : List Float) → ys′ ≡ pasted (pasted ys (2 * k) u) (2 * (h - k - n + 1)) v → Stepped s h tw xs ys′ (k + n)
-  stepped-batch short room lu lv eu ev m p ys′ e =
-      rw e
+  pub stepped-batch : n ≤ 32 → 2 * (k + n) < h + 2 → length u ≡ 2 * n → length v ≡ 2 * n → ((j : ℕ) → j < n → cell u j ≡ cell a j)
+      → ((j : ℕ) → j < n → cell v j ≡ cell b (32 - n + j))
+      → Batched s h tw xs k n a b → Stepped s h tw xs ys k → (ys′ : List Float) → ys′ ≡ pasted (pasted ys (2 * k) u) (2 * (h - k - n + 1)) v
+      → Stepped s h tw xs ys′ (k + n)
+  stepped-batch short room lu lv eu ev m p ys′ e = rw e
       (record {
         some = omega (arith, p .some);
         size = twice-size h k n (p .some) room ys u v (p .size) lu lv;
@@ -145,24 +131,22 @@ module _ (s : Steps) (h : ℕ) (tw xs ys : List Float) (k n : ℕ) (a b u v : Li
         far = λ j c d. far j c d (decLe k j);
       })
     where
-      other : (j : ℕ) → (j < k) ⊎ (k + n ≤ j) → (j < h - k - n + 1) ⊎ (h - k + 1 ≤ j) → cell (pasted (pasted ys (2 * k) u) (2 * (h - k - n + 1)) v) j ≡ cell ys j
+      other : (j : ℕ) → (j < k) ⊎ (k + n ≤ j) → (j < h - k - n + 1) ⊎ (h - k + 1 ≤ j)
+          → cell (pasted (pasted ys (2 * k) u) (2 * (h - k - n + 1)) v) j ≡ cell ys j
       other = twice-out h k n (p .some) room ys u v (p .size) lu lv
 
       near : (j : ℕ) → 0 < j → j < k + n → Dec (k ≤ j) → cell (pasted (pasted ys (2 * k) u) (2 * (h - k - n + 1)) v) j ≡ E j
       near j c d (no q) = other j (inl (omega (arith, q))) (inl (omega (arith, q))) ∙ p .near j c (omega (arith, q))
       near j c d (yes q) =
-          let i = j - k in
-          let back : k + (j - k) ≡ j = omega arith in
+          let i = j - k in let back : k + (j - k) ≡ j = omega arith in
           let made = twice-near h k n (p .some) room ys u v (p .size) lu lv i (omega arith) ∙ eu i (omega arith) ∙ m .near i (omega arith) in
-          (rw back at made)
-          ∙ sym (end-near s h (cell xs) (endLent tw) j c (omega arith))
+          (rw back at made) ∙ sym (end-near s h (cell xs) (endLent tw) j c (omega arith))
 
       far : (j : ℕ) → 0 < j → j < k + n → Dec (k ≤ j) → cell (pasted (pasted ys (2 * k) u) (2 * (h - k - n + 1)) v) (h - j) ≡ E (h - j)
       far j c d (no q) = other (h - j) (inr (omega (arith, q))) (inr (omega (arith, q))) ∙ p .far j c (omega (arith, q))
       far j c d (yes q) =
-          let i = j - k in
-          let back : k + (j - k) ≡ j = omega arith in
+          let i = j - k in let back : k + (j - k) ≡ j = omega arith in
           let place : 32 - n + (n - 1 - (j - k)) ≡ 31 - (j - k) = omega arith in
-          let made = twice-far h k n (p .some) room ys u v (p .size) lu lv i (omega arith) ∙ ev (n - 1 - i) (omega arith) ∙ ap (cell b) place ∙ m .far i (omega arith) in
-          (rw back at made)
-          ∙ sym (end-far s h (cell xs) (endLent tw) j c (omega arith))
+          let made = twice-far h k n (p .some) room ys u v (p .size) lu lv i (omega arith) ∙ ev (n - 1 - i) (omega arith) ∙ ap (cell b) place
+          ∙ m .far i (omega arith) in
+          (rw back at made) ∙ sym (end-far s h (cell xs) (endLent tw) j c (omega arith))

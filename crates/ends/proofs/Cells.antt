@@ -1,15 +1,7 @@
 -- Laws of cells changed in place: a flat list from its cells, the steps at the ends pair by pair, and a row cell by cell. Assumes nothing.
-use Prim.Native.Nat.{ℕ, _+_, _-_, _*_, _≤_, _<_}
-use native.Mathlib.Nat.{not-suc-le-zero}
-use native.Mathlib.Omega.{arith}
-use native.Mathlib.Decide.{ℕ-discrete, decLe}
-use mathlib.Core.Logic.{_≢_}
-use mathlib.Core.Path.{_≡_, refl, sym, ap, _∙_}
-use mathlib.Core.List.{List}
+use Rattle.sequences.proofs.Basics.{_≡_, refl, sym, ap, _∙_, ℕ, _+_, _-_, _*_, _≤_, _<_, not-suc-le-zero, arith, ℕ-discrete, decLe, _≢_, List, length, getD}
+use Rattle.sequences.proofs.Basics.{set, ext-getD, getD-set-same, getD-set-other, lt-ltb, le-ltb, eq-eqb, ne-eqb}
 use lib.Ieee.{Float, nan}
-use lib.ListN.{length, getD, set}
-use lib.Seq.{ext-getD, getD-set-same, getD-set-other}
-use borrow.Author.Tests.{lt-ltb, le-ltb, eq-eqb, ne-eqb}
 use Rattle.schedule.specs.Stage.{tabulate}
 use Rattle.schedule.proofs.Cells.{length-tabulate, getD-tabulate}
 use Rattle.floats.specs.Complexes.{blank, conjugate, cell, putCell, paired, flat}
@@ -20,9 +12,7 @@ use Rattle.ends.specs.Parts.{Stepped}
 
 -- words whose cells are f 0, f 1, .. are these written out
 pub flat-cells : (n : ℕ) (f : ℕ → Complex) (ys : List Float) → length ys ≡ 2 * n → ((j : ℕ) → j < n → cell ys j ≡ f j) → ys ≡ flat (tabulate n 0 f)
-flat-cells n f ys l e =
-    sym (flat-paired n ys l)
-    ∙ ap flat
+flat-cells n f ys l e = sym (flat-paired n ys l) ∙ ap flat
     (ext-getD blank (paired ys) (tabulate n 0 f) (length-paired n ys l ∙ sym (length-tabulate n 0 f)) (λ j lj.
     let small : j < n = rw (length-paired n ys l) at lj in
     get-paired ys j (omega arith) ∙ e j small ∙ sym (getD-tabulate n 0 f j blank small ∙ ap f (omega arith))))
@@ -65,7 +55,13 @@ module _ (s : Steps) (h : ℕ) (c t : ℕ → Complex) where
     unfolding endCell
     end-far l =
         let back : h - (h - j) ≡ j = omega arith in
-        simp (ne-eqb (h - j) 0 (λ e. omega arith), ne-eqb (h - j) h (λ e. omega arith), le-ltb (2 * (h - j)) h (omega arith), ne-eqb (2 * (h - j)) h (λ e. omega arith), back)
+        simp (
+          ne-eqb (h - j) 0 (λ e. omega arith),
+          ne-eqb (h - j) h (λ e. omega arith),
+          le-ltb (2 * (h - j)) h (omega arith),
+          ne-eqb (2 * (h - j)) h (λ e. omega arith),
+          back,
+        )
 
 module _ (s : Steps) (h : ℕ) (tw xs : List Float) where
   -- cell j afterwards
@@ -89,11 +85,11 @@ module _ (s : Steps) (h : ℕ) (tw xs : List Float) where
     both-other : (n : ℕ) → n ≢ i → n ≢ j → cell both n ≡ cell ys n
     both-other n a b = get-other (putCell ys i y) j z n b ∙ get-other ys i y n a
 
-  pub stepped-first : 0 < h → (os : List Float) → length os ≡ 2 * (h + 1) → (ys : List Float) (y z : Complex) → y ≡ s .first (cell xs 0) (cell xs h) → z ≡ s .last (cell xs 0) (cell xs h)
+  pub stepped-first : 0 < h → (os : List Float) → length os ≡ 2 * (h + 1) → (ys : List Float) (y z : Complex) → y ≡ s .first (cell xs 0) (cell xs h)
+      → z ≡ s .last (cell xs 0) (cell xs h)
       → ys ≡ putCell (putCell os 0 y) h z → Stepped s h tw xs ys 1
   stepped-first l os size ys y z ey ez e =
-      let l0 : 1 < length os = omega arith in
-      let lh : 2 * h + 1 < length os = omega arith in
+      let l0 : 1 < length os = omega arith in let lh : 2 * h + 1 < length os = omega arith in
       let ne : 0 ≢ h = λ q. omega arith in
       rw e
       (record {
@@ -107,7 +103,8 @@ module _ (s : Steps) (h : ℕ) (tw xs : List Float) where
 
   module _ (ys : List Float) (k : ℕ) (p : Stepped s h tw xs ys k) where
     -- when no pair is left, cell k is the only one that may be
-    cells-done : h ≤ 2 * k → (ys′ : List Float) → length ys′ ≡ length ys → ((j : ℕ) → j ≢ k → cell ys′ j ≡ cell ys j) → (2 * k ≡ h → cell ys′ k ≡ E k) → (2 * k ≢ h → cell ys′ k ≡ cell ys k)
+    cells-done : h ≤ 2 * k → (ys′ : List Float) → length ys′ ≡ length ys → ((j : ℕ) → j ≢ k → cell ys′ j ≡ cell ys j) → (2 * k ≡ h → cell ys′ k ≡ E k)
+        → (2 * k ≢ h → cell ys′ k ≡ cell ys k)
         → (j : ℕ) → j < h + 1 → cell ys′ j ≡ E j
     cells-done l ys′ size other centre same j lj = pick (ℕ-discrete j 0) (ℕ-discrete j h) (decLe k j) (decLe (j + k) h)
       where
@@ -127,8 +124,7 @@ module _ (s : Steps) (h : ℕ) (tw xs : List Float) where
             let back : h - (h - j) ≡ j = omega arith in
             whole (rw back at (p .far (h - j) (omega (arith, b)) (omega (arith, f)))) (λ u v. f (omega arith))
         pick (no a) (no b) (yes d) (yes f) =
-            let u : 2 * k ≡ h = omega arith in
-            let v : j ≡ k = omega arith in
+            let u : 2 * k ≡ h = omega arith in let v : j ≡ k = omega arith in
             rw v (centre u)
 
     -- the centre is the last
@@ -138,8 +134,7 @@ module _ (s : Steps) (h : ℕ) (tw xs : List Float) where
         let made : y ≡ E k = ey ∙ sym (end-centre s h (cell xs) (endLent tw) k (p .some) l) in
         let size : length (putCell ys k y) ≡ length ys = length-put ys k y in
         let put : cell (putCell ys k y) k ≡ y = get-put ys k y (omega (arith, p .size)) in
-        rw e
-        (flat-cells (h + 1) E (putCell ys k y) (size ∙ p .size)
+        rw e (flat-cells (h + 1) E (putCell ys k y) (size ∙ p .size)
         (cells-done (omega arith) (putCell ys k y) size (λ j n. get-other ys k y j n) (λ u. put ∙ made) (λ n. absurd (n l))))
 
     -- and without one nothing is left
@@ -159,9 +154,9 @@ module _ (f : Complex → Complex) (xs : List Float) where
   pub mapped-none : Mapped f xs xs 0
   mapped-none = record { size = refl; done = λ j l. absurd (not-suc-le-zero l); kept = λ j l. refl }
 
-  pub mapped-next : (ys ys′ : List Float) (k : ℕ) (z : Complex) → Mapped f xs ys k → 2 * k + 1 < length ys → z ≡ f (cell ys k) → ys′ ≡ putCell ys k z → Mapped f xs ys′ (k + 1)
-  mapped-next ys ys′ k z m l ez e =
-      rw e
+  pub mapped-next : (ys ys′ : List Float) (k : ℕ) (z : Complex) → Mapped f xs ys k → 2 * k + 1 < length ys → z ≡ f (cell ys k) → ys′ ≡ putCell ys k z
+      → Mapped f xs ys′ (k + 1)
+  mapped-next ys ys′ k z m l ez e = rw e
       (record {
         size = length-put ys k z ∙ m .size;
         done = λ j lj. pick j lj (ℕ-discrete j k);
@@ -190,7 +185,6 @@ cleared-next ys k l c j lj = pick (ℕ-discrete j k)
     pick (no q) = getD-set-other ys k j +0 nan q ∙ c j (omega (arith, q))
 
 pub cleared-all : (ys : List Float) (n k : ℕ) → length ys ≡ n → n ≤ k → Cleared ys k → ys ≡ zeros n
-cleared-all ys n k e l c =
-    ext-getD nan ys (zeros n) (e ∙ sym (length-tabulate n 0 (λ j. +0))) (λ j lj.
+cleared-all ys n k e l c = ext-getD nan ys (zeros n) (e ∙ sym (length-tabulate n 0 (λ j. +0))) (λ j lj.
     let small : j < n = rw e at lj in
     c j (omega arith) ∙ sym (getD-tabulate n 0 (λ j. +0) j nan small))

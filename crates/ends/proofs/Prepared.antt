@@ -1,14 +1,7 @@
 -- The steps that conjugate every cell but h are the steps, and then the first h cells conjugated. Assumes nothing.
-use Prim.Native.Nat.{ℕ, _+_, _-_, _*_, _<_}
-use native.Mathlib.Omega.{arith}
-use native.Mathlib.Decide.{ℕ-discrete}
-use mathlib.Core.Bool.{Bool, true, false, cond}
-use mathlib.Core.Path.{_≡_, refl, sym, ap, _∙_}
-use mathlib.Core.List.{List, _++_}
-use lib.Dec.{eqb, ltb}
+use Rattle.sequences.proofs.Basics.{_≡_, refl, sym, ap, _∙_, ℕ, _+_, _-_, _*_, _<_, arith, ℕ-discrete, Bool, true, false, cond, List, _++_, eqb, ltb, length}
+use Rattle.sequences.proofs.Basics.{take, drop, length-append, length-drop, ne-eqb}
 use lib.Ieee.{Float}
-use lib.ListN.{length, take, drop, length-append, length-drop}
-use borrow.Author.Tests.{ne-eqb}
 use Rattle.floats.specs.Complexes.{conjugate, cell}
 use Rattle.floats.specs.declared.complex.Complex.{Complex}
 use Rattle.floats.proofs.Flat.{cell-take, cell-drop, cell-front, cell-back}
@@ -27,8 +20,7 @@ choice false false false x y z u = refl
 -- a cell below h is conjugated
 end-conjugated : (s : Steps) (h : ℕ) (c t : ℕ → Complex) (j : ℕ) → j < h → endCell (conjugating s) h c t j ≡ conjugate (endCell s h c t j)
 unfolding endCell
-end-conjugated s h c t j l =
-    rw (ne-eqb j h (λ e. omega arith)) (choice (eqb j 0) (ltb (2 * j) h) (eqb (2 * j) h) _ _ _ _)
+end-conjugated s h c t j l = rw (ne-eqb j h (λ e. omega arith)) (choice (eqb j 0) (ltb (2 * j) h) (eqb (2 * j) h) _ _ _ _)
 
 module _ (s : Steps) (h : ℕ) (tw xs : List Float) (some : 0 < h) where
   -- the cells as the steps leave them, and those below h conjugated
@@ -59,14 +51,10 @@ module _ (s : Steps) (h : ℕ) (tw xs : List Float) (some : 0 < h) where
           rw e (here ∙ cell-ended h (omega arith) ∙ end-last s h (cell xs) (endLent tw) some ∙ sym (end-last (conjugating s) h (cell xs) (endLent tw) some))
       pick (no f) =
           let below : j < h = omega (arith, f) in
-          cell-front there (drop (2 * h) E) j (omega (arith, long))
-          ∙ cell-there j below
-          ∙ ap conjugate (cell-ended j l)
+          cell-front there (drop (2 * h) E) j (omega (arith, long)) ∙ cell-there j below ∙ ap conjugate (cell-ended j l)
           ∙ sym (end-conjugated s h (cell xs) (endLent tw) j below)
 
   pub prepared-is : ended (conjugating s) h tw xs ≡ there ++ drop (2 * h) E
   unfolding ended
-  prepared-is =
-      sym
-      (flat-cells (h + 1) (endCell (conjugating s) h (cell xs) (endLent tw)) (there ++ drop (2 * h) E)
+  prepared-is = sym (flat-cells (h + 1) (endCell (conjugating s) h (cell xs) (endLent tw)) (there ++ drop (2 * h) E)
       (length-append there (drop (2 * h) E) ∙ omega (arith, length-conjugated h (take (2 * h) E), length-drop (2 * h) E, length-ended s h tw xs)) each)

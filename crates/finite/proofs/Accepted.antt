@@ -1,16 +1,8 @@
 -- Calls that are accepted: rightly lent, with numbers within the bound. Assumes nothing.
-use Prim.Native.Nat.{ℕ, _+_, _-_, _*_, _^_, _≤_}
-use native.Mathlib.Nat.{le-trans, le-of-eq, mul-le-mul-right}
-use native.Mathlib.Omega.{arith}
-use mathlib.Core.Path.{_≡_, sym, subst}
-use mathlib.Core.Bool.{Bool, true}
-use mathlib.Core.List.{List}
-use lib.Dec.{lit≤}
+use Rattle.sequences.proofs.Basics.{_≡_, sym, subst, ℕ, _+_, _-_, _*_, _^_, _≤_, le-trans, le-of-eq, mul-le-mul-right, arith, Bool, true, List, lit≤, length}
+use Rattle.sequences.proofs.Basics.{getD, pow-pos, le-leb}
 use lib.IntN.{ℤ, natAbs}
 use lib.Ieee.{Float, nan, inf, fin, up, down}
-use lib.ListN.{length, getD}
-use lib.Pow.{pow-pos}
-use borrow.Author.Tests.{le-leb}
 use Rattle.refusal.specs.declared.Verdict.the-variants.{Accepted}
 use Rattle.refusal.proofs.Rows.{deciding}
 use Rattle.plan.specs.declared.Record.{Record}
@@ -33,7 +25,8 @@ unfolding firstUnfit
 words-fit k xs w = none-fails (fits k) xs (λ i l. most-fits k (getD xs i nan) (w i l))
 
 -- rightly lent, a call with numbers within its bound is accepted
-pub lent-accepted : (p : Record) (W : ℕ) (stage end : List Float) (input output : Bool) (scratch k : ℕ) (xs : List Float) → RightlyLent p W stage end input output scratch → Words k xs
+pub lent-accepted : (p : Record) (W : ℕ) (stage end : List Float) (input output : Bool) (scratch k : ℕ) (xs : List Float)
+    → RightlyLent p W stage end input output scratch → Words k xs
     → lentVerdict p W input output scratch k xs stage end ≡ Accepted
 unfolding lentVerdict
 lent-accepted p W stage end input output scratch k xs l w =
@@ -50,5 +43,4 @@ words-wider a b xs l w i li =
 pub whole-most : (x : Float) (z : ℤ) → IsWhole x z → natAbs z ≤ 2 ^ 20 → AtMost 1 32 x
 whole-most nan z w l = absurd w
 whole-most (inf s) z w l = absurd w
-whole-most (fin s m e) z w l =
-    le-trans (le-of-eq (w .0)) (mul-le-mul-right (down e) (le-trans l (lit≤ tt)))
+whole-most (fin s m e) z w l = le-trans (le-of-eq (w .0)) (mul-le-mul-right (down e) (le-trans l (lit≤ tt)))

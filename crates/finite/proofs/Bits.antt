@@ -1,10 +1,5 @@
 -- Laws of bits: what is no NaN is held by one pattern alone. Assumes nothing.
-use Prim.Native.Nat.{ℕ, suc}
-use native.Mathlib.Omega.{arith}
-use mathlib.Core.Path.{_≡_, refl, sym, ap, _∙_, subst}
-use mathlib.Core.Bool.{not}
-use mathlib.Core.List.{List, [], _∷_}
-use lib.Dec.{T}
+use Rattle.sequences.proofs.Basics.{_≡_, refl, sym, ap, _∙_, subst, ℕ, suc, arith, not, List, [], _∷_, T}
 use lib.Ieee.{Float, nan, inf, fin, binary32, isNan, toBits}
 use lib.Ieee.Bits.{toBits-ofBits}
 use Rattle.finite.specs.Bits.{Holds, HoldAll, SameBits}
@@ -19,7 +14,8 @@ sized q k (fin s m e) a = tt
 
 -- and its pattern follows from it
 bits-of : (q k b : ℕ) (x : Float) → AtMost q k x → Holds b x → b ≡ toBits binary32 x
-bits-of q k b x a h = sym (toBits-ofBits binary32 b (h .word) (subst (λ (y : Float). T (not (isNan y))) (sym (h .value)) (sized q k x a))) ∙ ap (toBits binary32) (h .value)
+bits-of q k b x a h = sym (toBits-ofBits binary32 b (h .word) (subst (λ (y : Float). T (not (isNan y))) (sym (h .value)) (sized q k x a)))
+    ∙ ap (toBits binary32) (h .value)
 
 -- one float
 pub same-word : (q k b c : ℕ) (x : Float) → AtMost q k x → Holds b x → Holds c x → b ≡ c
@@ -34,7 +30,8 @@ same-words k [] w (b ∷ bs) cs h g = absurd h
 same-words k (x ∷ xs) w [] cs h g = absurd h
 same-words k (x ∷ xs) w (b ∷ bs) [] h g = absurd g
 same-words k (x ∷ xs) w (b ∷ bs) (c ∷ cs) h g =
-    ap (λ (z : ℕ). z ∷ bs) (same-word 1 k b c x (w 0 (omega arith)) (h .0) (g .0)) ∙ ap (λ (zs : List ℕ). c ∷ zs) (same-words k xs (λ i l. w (suc i) (omega arith)) bs cs (h .1) (g .1))
+    ap (λ (z : ℕ). z ∷ bs) (same-word 1 k b c x (w 0 (omega arith)) (h .0) (g .0))
+    ∙ ap (λ (zs : List ℕ). c ∷ zs) (same-words k xs (λ i l. w (suc i) (omega arith)) bs cs (h .1) (g .1))
 
 -- two equal rows, the first of which has a size
 pub same-bits : (k : ℕ) (xs ys : List Float) → Words k xs → xs ≡ ys → SameBits xs ys

@@ -1,12 +1,7 @@
 -- Laws of sizes at a transform's ends: the steps there add three binary digits at most. Assumes nothing.
-use mathlib.Core.Path.{_≡_, refl, sym, ap, _∙_, subst}
-use mathlib.Core.Bool.{Bool, true, false, cond}
-use mathlib.Core.List.{List}
-use Prim.Native.Nat.{ℕ, _+_, _-_, _*_, _^_, _≤_, _<_}
-use native.Mathlib.Omega.{arith}
-use lib.Dec.{eqb, ltb, lit≤}
+use Rattle.sequences.proofs.Basics.{_≡_, refl, sym, ap, _∙_, subst, ℕ, _+_, _-_, _*_, _^_, _≤_, _<_, arith, Bool, true, false, cond, List, eqb, ltb, lit≤}
+use Rattle.sequences.proofs.Basics.{eqb-true, eqb-false, ltb-true, ltb-false}
 use lib.Ieee.{Float, binary32, ofBits, mul}
-use borrow.Author.Tests.{eqb-true, eqb-false, ltb-true, ltb-false}
 use Rattle.schedule.specs.Stage.{tabulate}
 use Rattle.schedule.proofs.Cells.{length-tabulate, getD-tabulate}
 use Rattle.floats.specs.Complexes.{blank, plus, minus, conjugate, cell, flat}
@@ -64,10 +59,7 @@ module _ (k : ℕ) (few : k ≤ 121) (a b t : Complex) (va : Both 1 k a) (vb : B
 
   ifft-near : Both 6 k (ifftNear a b t)
   ifft-near =
-      record {
-        re = sub-most 6 2 4 k (six 6 k (lit≤ tt) few) _ _ (S .re) (mix .re);
-        im = sub-most 6 2 4 k (six 6 k (lit≤ tt) few) _ _ (D .im) (mix .im);
-      }
+      record { re = sub-most 6 2 4 k (six 6 k (lit≤ tt) few) _ _ (S .re) (mix .re); im = sub-most 6 2 4 k (six 6 k (lit≤ tt) few) _ _ (D .im) (mix .im) }
 
   ifft-far : Both 6 k (ifftFar a b t)
   ifft-far =
@@ -89,7 +81,8 @@ module _ (s : Steps) (h : ℕ) (c t : ℕ → Complex) (P : ℕ → Complex → 
   end-cell j l = go (eqb j 0) (eqb j h) (ltb (2 * j) h) (eqb (2 * j) h) refl refl refl refl
     where
       go : (e f g i : Bool) → eqb j 0 ≡ e → eqb j h ≡ f → ltb (2 * j) h ≡ g → eqb (2 * j) h ≡ i
-          → P j (cond e (s .first (c 0) (c h)) (cond f (s .last (c 0) (c h)) (cond g (s .near (c j) (c (h - j)) (t j)) (cond i (s .centre (c j)) (s .far (c (h - j)) (c j) (t (h - j)))))))
+          → P j (cond e (s .first (c 0) (c h)) (cond f (s .last (c 0) (c h))
+          (cond g (s .near (c j) (c (h - j)) (t j)) (cond i (s .centre (c j)) (s .far (c (h - j)) (c j) (t (h - j)))))))
       go true f g i x y z w = subst (λ (n : ℕ). P n (s .first (c 0) (c h))) (sym (eqb-true j 0 x)) first
       go false true g i x y z w = subst (λ (n : ℕ). P n (s .last (c 0) (c h))) (sym (eqb-true j h y)) last
       go false false true i x y z w = near j (some (eqb-false j 0 x)) (ltb-true (2 * j) h z)
@@ -101,8 +94,7 @@ module _ (s : Steps) (h : ℕ) (c t : ℕ → Complex) (P : ℕ → Complex → 
           some : (j ≡ 0 → ⊥) → 0 < j
           some n = omega (arith, n)
       go false false false false x y z w =
-          let a : h ≤ 2 * j = ltb-false (2 * j) h z in
-          let back : h - (h - j) ≡ j = omega arith in
+          let a : h ≤ 2 * j = ltb-false (2 * j) h z in let back : h - (h - j) ≡ j = omega arith in
           subst (λ (n : ℕ). P n (s .far (c (h - j)) (c n) (t (h - j)))) back (far (h - j) (some (eqb-false j h y)) (less a (eqb-false (2 * j) h w)))
         where
           some : (j ≡ h → ⊥) → 0 < h - j
@@ -117,8 +109,7 @@ module _ (k : ℕ) (few : k ≤ 121) (h : ℕ) (some : 0 < h) (c t : ℕ → Com
   three q z l v = both-shifted q k 3 z l v
 
   pub fft-cell : ((j : ℕ) → j < h → Both 1 k (c j)) → (j : ℕ) → j ≤ h → Both 1 (k + 3) (endCell fftSteps h c t j)
-  fft-cell v =
-      end-cell fftSteps h c t (λ j. Both 1 (k + 3))
+  fft-cell v = end-cell fftSteps h c t (λ j. Both 1 (k + 3))
       (three 2 _ (lit≤ tt) (record { re = add-most 6 1 1 k (six 2 k (lit≤ tt) few) _ _ (v 0 some .re) (v 0 some .im); im = zero-most 2 k }))
       (three 2 _ (lit≤ tt) (record { re = sub-most 6 1 1 k (six 2 k (lit≤ tt) few) _ _ (v 0 some .re) (v 0 some .im); im = zero-most 2 k }))
       (λ j a b. three 6 _ (lit≤ tt) (fft-near k few (c j) (c (h - j)) (t j) (v j (omega arith)) (v (h - j) (omega arith)) (ones j a b)))
@@ -127,12 +118,10 @@ module _ (k : ℕ) (few : k ≤ 121) (h : ℕ) (some : 0 < h) (c t : ℕ → Com
 
   pub ifft-cell : ((j : ℕ) → j ≤ h → Both 1 k (c j)) → (j : ℕ) → j ≤ h → Both 1 (k + 3) (endCell ifftSteps h c t j)
   ifft-cell v =
-      let x = v 0 (omega arith) in
-      let y = v h (omega arith) in
+      let x = v 0 (omega arith) in let y = v h (omega arith) in
       let S = plus-both 6 1 1 k (six 2 k (lit≤ tt) few) (c 0) (c h) x y in
       let D = minus-both 6 1 1 k (six 2 k (lit≤ tt) few) (c 0) (c h) x y in
-      end-cell ifftSteps h c t (λ j. Both 1 (k + 3))
-      (three 4 _ (lit≤ tt)
+      end-cell ifftSteps h c t (λ j. Both 1 (k + 3)) (three 4 _ (lit≤ tt)
       (record { re = sub-most 6 2 2 k (six 4 k (lit≤ tt) few) _ _ (S .re) (S .im); im = sub-most 6 2 2 k (six 4 k (lit≤ tt) few) _ _ (D .re) (D .im) }))
       (three 1 _ (lit≤ tt) y)
       (λ j a b. three 6 _ (lit≤ tt) (ifft-near k few (c j) (c (h - j)) (t j) (v j (omega arith)) (v (h - j) (omega arith)) (ones j a b)))
@@ -141,10 +130,8 @@ module _ (k : ℕ) (few : k ≤ 121) (h : ℕ) (some : 0 < h) (c t : ℕ → Com
 
 -- cells written out, word by word
 pub tabulated-words : (k n : ℕ) (f : ℕ → Complex) → ((j : ℕ) → j < n → Both 1 k (f j)) → Words k (flat (tabulate n 0 f))
-tabulated-words k n f v =
-    cells-words k (tabulate n 0 f) (λ j l.
-    let small : j < n = rw (length-tabulate n 0 f) at l in
-    let same : 0 + j ≡ j = omega arith in
+tabulated-words k n f v = cells-words k (tabulate n 0 f) (λ j l.
+    let small : j < n = rw (length-tabulate n 0 f) at l in let same : 0 + j ≡ j = omega arith in
     subst (Both 1 k) (sym (getD-tabulate n 0 f j blank small ∙ ap f same)) (v j small))
 
 pub conjugated-words : (k h : ℕ) (xs : List Float) → ((j : ℕ) → j < h → Both 1 k (cell xs j)) → Words k (conjugated h xs)

@@ -1,16 +1,9 @@
 -- Whole numbers up to 2 ^ 20 at lengths 2 and 4: the steps of forward leave their discrete Fourier transform exactly, and those of inverse, given that
 -- spectrum, n times each of them, at every width and for any lent twiddles. Assumes nothing.
-use Prim.Native.Nat.{ℕ, zero, suc, _+_, _-_, _*_, _/_, _≤_, _<_, suc-le-suc}
-use native.Mathlib.Nat.{le-of-suc-le-suc}
-use native.Mathlib.Omega.{arith}
-use mathlib.Core.Path.{_≡_, refl, sym, ap, ap₂, _∙_, subst}
-use mathlib.Core.Bool.{true, false}
-use mathlib.Core.Logic.{inl, inr}
-use mathlib.Core.List.{List, [], _∷_, _++_}
-use lib.Dec.{lit≤}
+use Rattle.sequences.proofs.Basics.{_≡_, refl, sym, ap, ap₂, _∙_, subst, ℕ, zero, suc, _+_, _-_, _*_, _/_, _≤_, _<_, suc-le-suc, le-of-suc-le-suc, arith, true}
+use Rattle.sequences.proofs.Basics.{false, inl, inr, List, [], _∷_, _++_, lit≤, length, getD}
 use lib.IntN.{ℤ, pos, _*ℤ_}
 use lib.Ieee.{Float, nan, binary32, add, sub, neg}
-use lib.ListN.{length, getD}
 use Rattle.counts.specs.Counts.{radix, stride, resultIn}
 use Rattle.radices.specs.Lists.{product}
 use Rattle.plan.specs.Record.{isPlanned}
@@ -96,8 +89,7 @@ twoBins a = add binary32 (a .re) (a .im) ∷ +0 ∷ sub binary32 (a .re) (a .im)
 
 abbrev fourBins : (a b : Complex) → List Float
 fourBins a b =
-    let S = plus a b in
-    let D = plus a (turnedBy Half b) in
+    let S = plus a b in let D = plus a (turnedBy Half b) in
     add binary32 (S .re) (S .im) ∷ +0 ∷ D .re ∷ neg (D .im) ∷ sub binary32 (S .re) (S .im) ∷ +0 ∷ []
 
 -- the samples from 2 bins, and from 3
@@ -106,8 +98,7 @@ twoSamples a b = flat (conjugate (conjugate (ifftSteps .first a b)) ∷ [])
 
 abbrev fourSamples : (a b c : Complex) → List Float
 fourSamples a b c =
-    let even = conjugate (ifftSteps .first a c) in
-    let odd = conjugate (conjugate (plus b b)) in
+    let even = conjugate (ifftSteps .first a c) in let odd = conjugate (conjugate (plus b b)) in
     flat (conjugate (plus even odd) ∷ conjugate (plus even (turnedBy Half odd)) ∷ [])
 
 module _ (p : Record) (planned : isPlanned p ≡ true) (W : ℕ) (tw end xs s : List Float) where
@@ -132,9 +123,7 @@ module _ (p : Record) (planned : isPlanned p ≡ true) (W : ℕ) (tw end xs s : 
 
   forward-four : p .n ≡ 4 → length xs ≡ 4 → forwardOf p W tw end xs s .0 ≡ fourBins (cell xs 0) (cell xs 1)
   unfolding forwardOf forwardRun driven alternated resultIn ended endCell tabulate flat
-  forward-four e long =
-      shaped forwarded 2 (2 ∷ []) e (use-four p planned e)
-      ∙ ap (postprocess-fft 2 end) (stage-four e xs)
+  forward-four e long = shaped forwarded 2 (2 ∷ []) e (use-four p planned e) ∙ ap (postprocess-fft 2 end) (stage-four e xs)
       ∙ ap₂ fourBins (get-paired xs 0 (omega arith)) (get-paired xs 1 (omega arith))
 
   module _ (room : ℕ) where
@@ -154,8 +143,7 @@ module _ (p : Record) (planned : isPlanned p ≡ true) (W : ℕ) (tw end xs s : 
 
     inverse-four : p .n ≡ 4 → inverseOf p W tw end xs s room .0 ≡ fourSamples (cell xs 0) (cell xs 1) (cell xs 2) ++ rest
     unfolding inverseOf inverseRun preparedOf driven alternated resultIn ended endCell tabulate flat conjugated paired
-    inverse-four e =
-        shaped inverted 2 (2 ∷ []) e (use-four p planned e)
+    inverse-four e = shaped inverted 2 (2 ∷ []) e (use-four p planned e)
         ∙ ap (λ (ys : List Float). conjugated 2 ys ++ rest) (stage-four e (conjugated 2 (dataOf 2 (preparedOf 2 end xs s))))
 
 -- ---- the numbers
@@ -193,32 +181,24 @@ module _ (x : ℕ → ℤ) (xs : List Float) where
 
   bins-two : Samples 2 x xs → IsBins 2 x (twoBins (cell xs 0))
   bins-two g k l =
-      let s = g .small in
-      let a = given g 0 (lit≤ tt) in
-      let b = given g 1 (lit≤ tt) in
-      let real = held-zero x .whole in
+      let s = g .small in let a = given g 0 (lit≤ tt) in let b = given g 1 (lit≤ tt) in let real = held-zero x .whole in
       let first = held-as (binSums 2 0 .0) (held-add s a b tt) (omega arith) in
       let last = held-as (binSums 2 1 .0) (held-sub s a b tt) (omega arith) in
       each 2 (λ k. AreWhole (cell (twoBins (cell xs 0)) k) (bin 2 x k)) ((first, real), ((last, real), tt)) k (suc-le-suc l)
 
   bins-four : Samples 4 x xs → IsBins 4 x (fourBins (cell xs 0) (cell xs 1))
   bins-four g k l =
-      let s = g .small in
-      let a = given g 0 (lit≤ tt) in
-      let b = given g 1 (lit≤ tt) in
-      let c = given g 2 (lit≤ tt) in
-      let d = given g 3 (lit≤ tt) in
-      let even = held-add s a c tt in
-      let odd = held-add s b d tt in
-      let real = held-zero x .whole in
-      let first = held-as (binSums 4 0 .0) (held-add s even odd tt) (omega arith) in
+      let s = g .small in let a = given g 0 (lit≤ tt) in let b = given g 1 (lit≤ tt) in let c = given g 2 (lit≤ tt) in
+      let d = given g 3 (lit≤ tt) in let even = held-add s a c tt in let odd = held-add s b d tt in
+      let real = held-zero x .whole in let first = held-as (binSums 4 0 .0) (held-add s even odd tt) (omega arith) in
       let re = held-as (binSums 4 1 .0) (held-add s a (held-neg c) tt) (omega arith) in
       let im = held-as (binSums 4 1 .1) (held-neg (held-add s b (held-neg d) tt)) (omega arith) in
       let last = held-as (binSums 4 2 .0) (held-sub s even odd tt) (omega arith) in
       each 3 (λ k. AreWhole (cell (fourBins (cell xs 0) (cell xs 1)) k) (bin 4 x k)) ((first, real), ((re, im), ((last, real), tt))) k (suc-le-suc l)
 
   -- n times x(j)
-  times : (n j : ℕ) {y : Float} {a : Sum} → Held x y a → part x false a + part x true (copies n j) ≡ part x false (copies n j) + part x true a → IsWhole y (pos n *ℤ x j)
+  times : (n j : ℕ) {y : Float} {a : Sum} → Held x y a → part x false a + part x true (copies n j) ≡ part x false (copies n j) + part x true a
+      → IsWhole y (pos n *ℤ x j)
   times n j {y} v e = subst (IsWhole y) (times-copies x n j) (held-as (copies n j) v e)
 
   module _ (rest : List Float) where
@@ -243,8 +223,7 @@ module _ (x : ℕ → ℤ) (xs : List Float) where
         let c : Held x (word 4) (binSums 4 2 .0) = record { whole = g 2 (lit≤ tt) .0 } in
         let c′ : Held x (word 5) none = record { whole = g 2 (lit≤ tt) .1 } in
         let even = held-sub s (held-add s a c tt) (held-add s a′ c′ tt) tt in
-        let even′ = held-neg (held-sub s (held-sub s a c tt) (held-sub s a′ c′ tt) tt) in
-        let odd = held-add s b b tt in
+        let even′ = held-neg (held-sub s (held-sub s a c tt) (held-sub s a′ c′ tt) tt) in let odd = held-add s b b tt in
         let odd′ = held-neg (held-neg (held-add s b′ b′ tt)) in
         let y = times 4 0 (held-add s even odd tt) (omega arith) in
         let y′ = times 4 1 (held-neg (held-add s even′ odd′ tt)) (omega arith) in
@@ -256,7 +235,8 @@ module _ (x : ℕ → ℤ) (xs : List Float) where
 
 module _ (p : Record) (W : ℕ) (stage end xs s : List Float) (x : ℕ → ℤ) (room : ℕ) where
   -- forward leaves the transform of the samples
-  pub forward-whole : Forwardable p W (length xs) room (length s) (length stage) (length end) → Short (p .n) → Samples (p .n) x xs → IsBins (p .n) x (forwardOf p W stage end xs s .0)
+  pub forward-whole : Forwardable p W (length xs) room (length s) (length stage) (length end) → Short (p .n) → Samples (p .n) x xs
+      → IsBins (p .n) x (forwardOf p W stage end xs s .0)
   forward-whole t (inl two) g = rw (forward-two p (t .planned) W stage end xs s two, two) (bins-two x xs (rw two at g))
   forward-whole t (inr four) g = rw (forward-four p (t .planned) W stage end xs s four (t .samples ∙ four), four) (bins-four x xs (rw four at g))
 

@@ -1,8 +1,5 @@
 -- Every word of a filling is at most 1. Assumes nothing.
-use mathlib.Core.List.{List}
-use Prim.Native.Nat.{ℕ, zero, suc, _≤_}
-use native.Mathlib.Omega.{arith}
-use lib.Dec.{lit≤}
+use Rattle.sequences.proofs.Basics.{ℕ, zero, suc, _≤_, arith, List, lit≤}
 use lib.Ieee.{Float, ofBits}
 use Rattle.plan.specs.declared.Record.{Record}
 use Rattle.schedule.specs.Stage.{Part}

@@ -1,12 +1,8 @@
 -- `round` passes no value of its format: a fraction up to q * 2 ^ j, with q of no more digits than the format keeps, stays there.
 -- Assumes nothing.
-use mathlib.Core.Path.{_≡_, ap, _∙_}
-use mathlib.Core.Logic.{dite}
-use Prim.Native.Nat.{ℕ, zero, suc, _+_, _-_, _*_, _/_, _%_, _^_, _≤_, _<_, zero-le, compare, Ordering}
-use native.Mathlib.Nat.{le-trans, le-of-eq, not-le-of-lt, mul-comm, mul-le-mul-right, le-of-mul-le-mul-right, mul-pos, le-div-iff-mul-le, mul-div-cancel, mul-mod-left, pow-suc}
-use native.Mathlib.Decide.{decLe}
-use native.Mathlib.Omega.{arith}
-use lib.Pow.{pow-add, pow-pos, pow-mono}
+use Rattle.sequences.proofs.Basics.{_≡_, ap, _∙_, ℕ, zero, suc, _+_, _-_, _*_, _/_, _%_, _^_, _≤_, _<_, zero-le, compare, Ordering, le-trans, le-of-eq}
+use Rattle.sequences.proofs.Basics.{not-le-of-lt, mul-comm, mul-le-mul-right, le-of-mul-le-mul-right, mul-pos, le-div-iff-mul-le, mul-div-cancel, mul-mod-left}
+use Rattle.sequences.proofs.Basics.{pow-suc, arith, decLe, dite, pow-add, pow-pos, pow-mono}
 use lib.Ieee.{Format, prec, low, nearest}
 use lib.Ieee.Digits.{size-reaches}
 use lib.Ieee.Fits.{two, two-le-pos}
@@ -17,10 +13,8 @@ use lib.Ieee.Scale.{grid}
 -- ---- to the nearest whole number
 
 pub closest-whole : (q b : ℕ) → 0 < b → closest (q * b) b ≡ q
-closest-whole q b h =
-    ap (λ (x : ℕ). nearest x (compare (q * b % b * 2) b)) (mul-div-cancel q h)
-    ∙ ap (λ (x : ℕ). nearest q (compare (x * 2) b)) (mul-mod-left q b)
-    ∙ go b h
+closest-whole q b h = ap (λ (x : ℕ). nearest x (compare (q * b % b * 2) b)) (mul-div-cancel q h)
+    ∙ ap (λ (x : ℕ). nearest q (compare (x * 2) b)) (mul-mod-left q b) ∙ go b h
   where
     go : (b : ℕ) → 0 < b → nearest q (compare (0 * 2) b) ≡ q
     go zero l = absurd (not-le-of-lt l zero-le)
@@ -31,8 +25,7 @@ closest-whole q b h =
 module _ (p n den : ℕ) (P : 0 < p) (D : 0 < den) where
   pub above : 0 < drop p n den → 2 ^ (p - 1) * (den * 2 ^ drop p n den) ≤ n
   above K =
-      let k = drop p n den in
-      let w = n / den in
+      let k = drop p n den in let w = n / den in
       let a : 2 ^ (p - 1 + k) ≤ w = size-reaches w (p - 1 + k) (omega arith) in
       let b : 2 ^ (p - 1 + k) * den ≤ n = le-div-iff-mul-le D .0 a in
       le-trans (le-of-eq (omega (arith, ap (λ (x : ℕ). x * den) (pow-add 2 (p - 1) k)))) b
@@ -44,27 +37,22 @@ module _ (p n den : ℕ) (P : 0 < p) (D : 0 < den) where
 module _ (p n den q j : ℕ) (P : 0 < p) (D : 0 < den) (small : q ≤ 2 ^ p) (h : n ≤ q * 2 ^ j * den) where
   kept-bound : kept p n den * 2 ^ drop p n den ≤ q * 2 ^ j
   kept-bound =
-      let k = drop p n den in
-      let K = 2 ^ k in
-      let c = kept p n den in
-      dite (decLe k j)
-      (λ (g : k ≤ j).
+      let k = drop p n den in let K = 2 ^ k in let c = kept p n den in
+      dite (decLe k j) (λ (g : k ≤ j).
       let e : 2 ^ j ≡ 2 ^ (j - k) * K = ap (λ (x : ℕ). 2 ^ x) (omega arith) ∙ pow-add 2 (j - k) k in
-      let r = q * 2 ^ (j - k) in
-      let U : 0 < den * K = mul-pos D (pow-pos k) in
+      let r = q * 2 ^ (j - k) in let U : 0 < den * K = mul-pos D (pow-pos k) in
       let l : n * (den * K) ≤ r * (den * K) * (den * K) = mul-le-mul-right (den * K) (le-trans h (rw e (le-of-eq (omega arith)))) in
       let m : c ≤ r = le-trans (closest-mono n (den * K) (r * (den * K)) (den * K) U U l) (le-of-eq (closest-whole r (den * K) U)) in
-      rw e (le-trans (mul-le-mul-right K m) (le-of-eq (omega arith))))
-      (λ (g : k ≤ j → ⊥).
-      let H = 2 ^ (p - 1) in
-      let U : 0 < den * K = mul-pos D (pow-pos k) in
+      rw e (le-trans (mul-le-mul-right K m) (le-of-eq (omega arith)))) (λ (g : k ≤ j → ⊥).
+      let H = 2 ^ (p - 1) in let U : 0 < den * K = mul-pos D (pow-pos k) in
       let a : H * (den * K) ≤ n = above p n den P D (omega arith) in
       let b : H * K ≤ q * 2 ^ j = le-of-mul-le-mul-right {m = H * K} (le-trans (le-trans (le-of-eq (omega arith)) a) h) D in
       let t : 2 * 2 ^ j ≤ K = le-trans (le-of-eq (omega arith)) (pow-mono {i = suc j} (omega arith)) in
       let s1 : q * (2 ^ j * den) ≤ 2 ^ p * (2 ^ j * den) = mul-le-mul-right (2 ^ j * den) small in
       let s2 : 2 * 2 ^ j * (H * den) ≤ K * (H * den) = mul-le-mul-right (H * den) t in
       let l : n ≤ H * (den * K) = omega (arith, twice p n den P D, ap (λ (x : ℕ). x * (2 ^ j * den)) (twice p n den P D)) in
-      let m : c ≤ H = le-trans (closest-mono n (den * K) (H * (den * K)) (den * K) U U (mul-le-mul-right (den * K) l)) (le-of-eq (closest-whole H (den * K) U)) in
+      let m : c ≤ H = le-trans (closest-mono n (den * K) (H * (den * K)) (den * K) U U (mul-le-mul-right (den * K) l))
+      (le-of-eq (closest-whole H (den * K) U)) in
       le-trans (mul-le-mul-right K m) b)
 
 -- ---- in a format, for the grid that `round` rounds to

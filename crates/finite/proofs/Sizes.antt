@@ -1,12 +1,7 @@
 -- Laws of sizes: each rounded operation, and what a scan tells. Assumes nothing.
-use mathlib.Core.Path.{_≡_, sym, ap, subst}
-use mathlib.Core.Bool.{Bool, true, false, cond, _&&_, Bool·beq}
-use Prim.Native.Nat.{ℕ, _+_, _-_, _*_, _^_, _≤_, _<_}
-use native.Mathlib.Nat.{le-trans, le-of-eq, lt-of-le-of-lt, mul-le-mul, mul-le-mul-right, le-of-mul-le-mul-right, mul-pos}
-use native.Mathlib.Omega.{arith}
-use borrow.Author.Tests.{leb-true}
-use lib.Dec.{ltb}
-use lib.Pow.{pow-add, pow-pos, pow-mono, pow-lt}
+use Rattle.sequences.proofs.Basics.{_≡_, sym, ap, subst, ℕ, _+_, _-_, _*_, _^_, _≤_, _<_, le-trans, le-of-eq, lt-of-le-of-lt, mul-le-mul, mul-le-mul-right}
+use Rattle.sequences.proofs.Basics.{le-of-mul-le-mul-right, mul-pos, arith, Bool, true, false, cond, _&&_, Bool·beq, ltb, pow-add, pow-pos, pow-mono, pow-lt}
+use Rattle.sequences.proofs.Basics.{leb-true}
 use lib.Ieee.{Float, nan, inf, fin, binary32, up, down, round, sum, add, sub, mul, neg, unlike}
 use lib.Ieee.Exact.{HasValue, units-val}
 use lib.Ieee.Fits.{down-pos, round-is}
@@ -25,15 +20,13 @@ pub record Room (m q k : ℕ) : Type 0 where
   pub below : k + m ≤ 127
 
 room : (m q k : ℕ) → Room m q k → q * 2 ^ (149 + k) < overflow binary32
-room m q k r =
-    lt-of-le-of-lt (le-trans (mul-le-mul-right (2 ^ (149 + k)) (r .digits)) (le-of-eq (sym (pow-add 2 m (149 + k)))))
+room m q k r = lt-of-le-of-lt (le-trans (mul-le-mul-right (2 ^ (149 + k)) (r .digits)) (le-of-eq (sym (pow-add 2 m (149 + k)))))
     (pow-lt {i = m + (149 + k)} {j = 277} (omega (arith, r .below)))
 
 by-value : (x : Float) (s : Bool) (g q k : ℕ) → HasValue x s g (2 ^ 149) → g ≤ q * 2 ^ (149 + k) → AtMost q k x
 by-value nan s g q k v l = v
 by-value (inf t) s g q k v l = v
-by-value (fin t m e) s g q k v l =
-    le-of-mul-le-mul-right {m = m * up e}
+by-value (fin t m e) s g q k v l = le-of-mul-le-mul-right {m = m * up e}
     (le-trans (le-of-eq (v .1)) (le-trans (mul-le-mul-right (down e) l) (le-of-eq (regroup q (2 ^ 149) (2 ^ k) (down e) (2 ^ (149 + k)) (pow-add 2 149 k)))))
     (pow-pos 149)
   where

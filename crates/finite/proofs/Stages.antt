@@ -1,14 +1,8 @@
 -- Laws of sizes lifted over complex operations, a kernel of any radix and a stage, which adds five binary digits at most.
 -- Assumes nothing.
-use mathlib.Core.Path.{_≡_, sym, subst}
-use mathlib.Core.Bool.{true}
-use mathlib.Core.List.{List}
-use Prim.Native.Nat.{ℕ, zero, suc, _+_, _-_, _*_, _/_, _^_, _≤_, _<_}
-use native.Mathlib.Nat.{le-trans, le-of-eq, mul-one, zero-add}
-use native.Mathlib.Omega.{arith}
-use lib.Dec.{lit≤}
+use Rattle.sequences.proofs.Basics.{_≡_, sym, subst, ℕ, zero, suc, _+_, _-_, _*_, _/_, _^_, _≤_, _<_, le-trans, le-of-eq, mul-one, zero-add, arith, true, List}
+use Rattle.sequences.proofs.Basics.{lit≤, getD, drop}
 use lib.Ieee.{Float, nan, inf, fin, mul, binary32}
-use lib.ListN.{getD, drop}
 use Rattle.counts.specs.Counts.{radix, stride}
 use Rattle.radices.specs.Lists.{product}
 use Rattle.plan.specs.Record.{isPlanned}
@@ -39,9 +33,9 @@ module _ (j q q′ k : ℕ) (small : Room j (q + q′) k) (x y : Complex) (v : B
 -- a product with a number up to 1
 pub once-most : (j q k : ℕ) → Room j q k → (x t : Float) → AtMost q k x → AtMost 1 0 t → AtMost q k (mul binary32 x t)
 once-most j q k small x t v w =
-    let one : q * 1 ≡ q = mul-one q in
-    let same : k + 0 ≡ k = omega arith in
-    subst (λ (n : ℕ). AtMost n k (mul binary32 x t)) one (subst (λ (n : ℕ). AtMost (q * 1) n (mul binary32 x t)) same (mul-most j q 1 k 0 (rw (one, same) small) x t v w))
+    let one : q * 1 ≡ q = mul-one q in let same : k + 0 ≡ k = omega arith in
+    subst (λ (n : ℕ). AtMost n k (mul binary32 x t)) one (subst (λ (n : ℕ). AtMost (q * 1) n (mul binary32 x t)) same
+    (mul-most j q 1 k 0 (rw (one, same) small) x t v w))
 
 pub times-both : (j q k : ℕ) → Room j (q + q) k → (x t : Complex) → Both q k x → Both 1 0 t → Both (q + q) k (times x t)
 times-both j q k small x t v w =
@@ -65,13 +59,15 @@ small-most nan v = v
 small-most (inf s) v = v
 small-most (fin s m e) v = le-trans v (le-of-eq (omega arith))
 
-pub turned-both : (j q k : ℕ) → Room j (q + q) k → (t : Turn) (x : Complex) → Small (wordsOf t .0) × Small (wordsOf t .1) → Both q k x → Both (q + q) k (turnedBy t x)
+pub turned-both : (j q k : ℕ) → Room j (q + q) k → (t : Turn) (x : Complex) → Small (wordsOf t .0) × Small (wordsOf t .1) → Both q k x
+    → Both (q + q) k (turnedBy t x)
 unfolding wordsOf
 turned-both j q k small Zero x u v = both-wider q (q + q) k x (omega arith) v
 turned-both j q k small Quarter x u v = both-wider q (q + q) k _ (omega arith) (record { re = v .im; im = neg-most q k (x .re) (v .re) })
 turned-both j q k small Half x u v = both-wider q (q + q) k _ (omega arith) (record { re = neg-most q k (x .re) (v .re); im = neg-most q k (x .im) (v .im) })
 turned-both j q k small ThreeQuarter x u v = both-wider q (q + q) k _ (omega arith) (record { re = neg-most q k (x .im) (v .im); im = v .re })
-turned-both j q k small (General c s) x u v = times-both j q k small x (record { re = c; im = s }) v (record { re = small-most c (u .0); im = small-most s (u .1) })
+turned-both j q k small (General c s) x u v = times-both j q k small x (record { re = c; im = s }) v
+    (record { re = small-most c (u .0); im = small-most s (u .1) })
 
 -- ---- a kernel and a stage, with twiddles up to 1
 
@@ -80,23 +76,26 @@ pub six : (q k : ℕ) → q ≤ 2 ^ 6 → k ≤ 121 → Room 6 q k
 six q k l few = record { digits = l; kept = lit≤ tt; below = omega arith }
 
 module _ (lent : ℕ → ℕ → ℕ → Complex) where
-  total-both : (r : ℕ) (x : ℕ → Complex) (p k : ℕ) → k ≤ 121 → (n : ℕ) → n ≤ 8 → ((q : ℕ) → q ≤ n → Both 2 k (x q)) → Both (2 + n * 4) k (total (floats lent) r x p n)
+  total-both : (r : ℕ) (x : ℕ → Complex) (p k : ℕ) → k ≤ 121 → (n : ℕ) → n ≤ 8 → ((q : ℕ) → q ≤ n → Both 2 k (x q))
+      → Both (2 + n * 4) k (total (floats lent) r x p n)
   unfolding total floats
   total-both r x p k few zero ln cells = cells 0 (omega arith)
   total-both r x p k few (suc n) ln cells =
       let more : 2 + n * 4 + 4 ≡ 2 + suc n * 4 = omega arith in
       subst (λ (z : ℕ). Both z k (plus (total (floats lent) r x p n) (turnedBy (turnOf (kernelTurn p (suc n) r)) (x (suc n))))) more
-      (plus-both 6 (2 + n * 4) 4 k (six (2 + n * 4 + 4) k (omega arith) few) _ _
-      (total-both r x p k few n (omega arith) (λ q lq. cells q (omega arith)))
-      (turned-both 6 2 k (six 4 k (lit≤ tt) few) (turnOf (kernelTurn p (suc n) r)) (x (suc n)) (words-small (kernelTurn p (suc n) r)) (cells (suc n) (omega arith))))
+      (plus-both 6 (2 + n * 4) 4 k (six (2 + n * 4 + 4) k (omega arith) few) _ _ (total-both r x p k few n (omega arith) (λ q lq. cells q (omega arith)))
+      (turned-both 6 2 k (six 4 k (lit≤ tt) few) (turnOf (kernelTurn p (suc n) r)) (x (suc n)) (words-small (kernelTurn p (suc n) r))
+      (cells (suc n) (omega arith))))
 
-  module _ (j M s r k : ℕ) (few : k ≤ 121) (c : ℕ → Complex) (i : ℕ) (cells : (q : ℕ) → q < r → Both 1 k (c (i + q * M))) (ones : (q : ℕ) → 0 < j → 0 < q → q < r → Both 1 0 (lent j i q)) where
+  module _ (j M s r k : ℕ) (few : k ≤ 121) (c : ℕ → Complex) (i : ℕ) (cells : (q : ℕ) → q < r → Both 1 k (c (i + q * M)))
+      (ones : (q : ℕ) → 0 < j → 0 < q → q < r → Both 1 0 (lent j i q)) where
     read-both : (q : ℕ) → q < r → Both 2 k (read (floats lent) j M s r c i q)
     unfolding read twiddledIn floats
     read-both zero l = both-wider 1 2 k _ (lit≤ tt) (subst (λ (n : ℕ). Both 1 k (c n)) (omega arith) (cells 0 l))
     read-both (suc q) l = go j ones
       where
-        go : (j : ℕ) → ((q : ℕ) → 0 < j → 0 < q → q < r → Both 1 0 (lent j i q)) → Both 2 k (twiddledIn (floats lent) j i (suc q) (twiddleTurn s r i (suc q)) (c (i + suc q * M)))
+        go : (j : ℕ) → ((q : ℕ) → 0 < j → 0 < q → q < r → Both 1 0 (lent j i q))
+            → Both 2 k (twiddledIn (floats lent) j i (suc q) (twiddleTurn s r i (suc q)) (c (i + suc q * M)))
         go zero o = both-wider 1 2 k _ (lit≤ tt) (cells (suc q) l)
         go (suc j) o = times-both 6 1 k (six 2 k (lit≤ tt) few) _ _ (cells (suc q) l) (o (suc q) (omega arith) (omega arith) l)
 
@@ -123,12 +122,13 @@ module _ (p : Record) (planned : isPlanned p ≡ true) (lent : ℕ → ℕ → �
       → All 1 (k + 5) (p .half) (stage plain (floats lent) (p .half) (inUse p) j xs)
   unfolding stage stageBy floats
   stage-all j k l few ones xs before n ln =
-      let r = radix (inUse p) j in
-      let s = stride (inUse p) j in
-      let blocks = product (drop (suc j) (inUse p)) in
-      let at : iteration s r n < p .half / r = iteration-lt s r n (use-stride-some p planned j l) (use-radix-some p planned j l) (p .half) blocks (use-parts p planned j l) ln in
+      let r = radix (inUse p) j in let s = stride (inUse p) j in let blocks = product (drop (suc j) (inUse p)) in
+      let at : iteration s r n < p .half / r = iteration-lt s r n (use-stride-some p planned j l) (use-radix-some p planned j l)
+      (p .half) blocks (use-parts p planned j l) ln in
       subst (λ (z : Complex). Both 1 (k + 5) z) (sym (getD-tabulate (p .half) 0 _ n blank ln))
-      (subst (λ (m : ℕ). Both 1 (k + 5) (output plain (floats lent) j (p .half / r) s r (λ u. getD xs u blank) (iteration s r m) (place s r m))) (sym (zero-add n))
+      (subst (λ (m : ℕ). Both 1 (k + 5) (output plain (floats lent) j (p .half / r) s r (λ u. getD xs u blank) (iteration s r m) (place s r m)))
+      (sym (zero-add n))
       (output-both lent j (p .half / r) s r k few (λ u. getD xs u blank) (iteration s r n)
-      (λ q lq. before (iteration s r n + q * (p .half / r)) (read-lt (p .half) r (iteration s r n) q at lq)) (λ q lj first last. ones lj (iteration s r n) q at first last) (place s r n)
+      (λ q lq. before (iteration s r n + q * (p .half / r)) (read-lt (p .half) r (iteration s r n) q at lq))
+      (λ q lj first last. ones lj (iteration s r n) q at first last) (place s r n)
       (use-radix-some p planned j l) (use-radix-few p planned j l)))

@@ -2,15 +2,9 @@
 -- the transform itself. Finite: within the bounds that acceptance checks (samples to 2 ^ 32, numbers of bins to 2 ^ 48, twiddles to 1) every number
 -- written or answered is finite, with a bound below 2 ^ 128; so two runs that meet a promise leave the same bits in every word that a call writes. A
 -- plan has at most 13 stages. Assumes nothing.
-use Prim.Native.Nat.{ℕ, _+_, _*_, _≤_, _<_}
-use mathlib.Core.Path.{_≡_, refl, sym, ap, _∙_, subst}
-use mathlib.Core.List.{List}
-use native.Mathlib.Omega.{arith}
-use lib.Dec.{lit≤}
+use Rattle.sequences.proofs.Basics.{_≡_, refl, sym, ap, _∙_, subst, ℕ, _+_, _*_, _≤_, _<_, arith, List, lit≤, length, getD, eqb-true}
 use lib.IntN.{ℤ, pos, _*ℤ_}
 use lib.Ieee.{Float, nan}
-use lib.ListN.{length, getD}
-use borrow.Author.Tests.{eqb-true}
 use Rattle.refusal.specs.declared.Verdict.{Verdict}
 use Rattle.refusal.specs.declared.Verdict.the-variants.{Accepted}
 use Rattle.refusal.proofs.Rows.{settled}
@@ -43,34 +37,42 @@ module _ (p : Record) (W : ℕ) (stage end xs : List Float) (before : Slices) (r
   pub forward-exact : Forwards p W stage end xs before r after → r ≡ Accepted → Short (p .n) → Samples (p .n) x xs → IsBins (p .n) x (after .0)
   forward-exact f e short g =
       let t = forwardable p W _ _ (length xs) (length (before .0)) (length (before .1)) 32 xs stage end r refl refl (f .answer) e in
-      subst (λ (s : Slices). IsBins (p .n) x (s .0)) (sym (settled _ _ _ _ _ f (sym (f .answer) ∙ e))) (forward-whole p W stage end xs (before .1) x (length (before .0)) t short g)
+      subst (λ (s : Slices). IsBins (p .n) x (s .0)) (sym (settled _ _ _ _ _ f (sym (f .answer) ∙ e)))
+      (forward-whole p W stage end xs (before .1) x (length (before .0)) t short g)
 
   -- inverse leaves n times the whole numbers x whose bins it is given
-  pub inverse-exact : Inverts p W stage end xs before r after → r ≡ Accepted → Short (p .n) → Small (p .n) x → IsBins (p .n) x xs → (j : ℕ) → j < p .n → IsWhole (getD (after .0) j nan) (pos (p .n) *ℤ x j)
+  pub inverse-exact : Inverts p W stage end xs before r after → r ≡ Accepted → Short (p .n) → Small (p .n) x → IsBins (p .n) x xs → (j : ℕ) → j < p .n
+      → IsWhole (getD (after .0) j nan) (pos (p .n) *ℤ x j)
   inverse-exact f e short m g j l =
       let t = invertible p W _ _ (length xs) (length (before .0)) (length (before .1)) 48 xs stage end r refl refl (f .answer) e in
-      subst (λ (s : Slices). IsWhole (getD (s .0) j nan) (pos (p .n) *ℤ x j)) (sym (settled _ _ _ _ _ f (sym (f .answer) ∙ e))) (inverse-whole p W stage end xs (before .1) x (length (before .0)) t short m g j l)
+      subst (λ (s : Slices). IsWhole (getD (s .0) j nan) (pos (p .n) *ℤ x j)) (sym (settled _ _ _ _ _ f (sym (f .answer) ∙ e)))
+      (inverse-whole p W stage end xs (before .1) x (length (before .0)) t short m g j l)
 
 -- rightly lent, forward accepts whole numbers up to 2 ^ 20, of any length
-pub whole-accepted : (p : Record) (W : ℕ) (stage end xs : List Float) (before : Slices) (r : Verdict) (after : Slices) → Forwards p W stage end xs before r after
+pub whole-accepted : (p : Record) (W : ℕ) (stage end xs : List Float) (before : Slices) (r : Verdict) (after : Slices)
+    → Forwards p W stage end xs before r after
     → RightForward p W stage end (length xs) (length (before .0)) (length (before .1)) → (x : ℕ → ℤ) → Samples (p .n) x xs → r ≡ Accepted
 whole-accepted p W stage end xs before r after f l x g =
     let long : length xs ≡ p .n = eqb-true (length xs) (p .n) (l .long) in
     f .answer
-    ∙ lent-accepted p W stage end _ _ (length (before .1)) 32 xs l (λ j lj. let low : j < p .n = subst (λ (n : ℕ). j < n) long lj in whole-most (getD xs j nan) (x j) (g .words j low) (g .small j low))
+    ∙ lent-accepted p W stage end _ _ (length (before .1)) 32 xs l (λ j lj. let low : j < p .n = subst (λ (n : ℕ). j < n) long lj in
+    whole-most (getD xs j nan) (x j) (g .words j low) (g .small j low))
 
 -- and at lengths 2 and 4 inverse, rightly lent, accepts the spectrum that forward leaves of any samples
-pub back-accepted : (p : Record) (W : ℕ) (stage end xs : List Float) (before : Slices) (r : Verdict) (spectrum : Slices) → Forwards p W stage end xs before r spectrum → r ≡ Accepted
+pub back-accepted : (p : Record) (W : ℕ) (stage end xs : List Float) (before : Slices) (r : Verdict) (spectrum : Slices)
+    → Forwards p W stage end xs before r spectrum → r ≡ Accepted
     → (W′ : ℕ) (stage′ end′ : List Float) (before′ : Slices) (r′ : Verdict) (after : Slices) → Inverts p W′ stage′ end′ (spectrum .0) before′ r′ after
     → RightInverse p W′ stage′ end′ (length (spectrum .0)) (length (before′ .0)) (length (before′ .1)) → Short (p .n) → r′ ≡ Accepted
-back-accepted p W stage end xs before r spectrum f e W′ stage′ end′ before′ r′ after g l short =
-    g .answer
+back-accepted p W stage end xs before r spectrum f e W′ stage′ end′ before′ r′ after g l short = g .answer
     ∙ lent-accepted p W′ stage′ end′ _ _ (length (before′ .1)) 48 (spectrum .0) l
-    (words-wider (32 + 5 * p .count + 3) 48 (spectrum .0) (omega (arith, short-count p (l .planned) short)) (forward-within p W stage end xs before r spectrum f e 32 (lit≤ tt) (samples-within p W stage end xs before r spectrum f e) .0))
+    (words-wider (32 + 5 * p .count + 3) 48 (spectrum .0) (omega (arith, short-count p (l .planned) short))
+    (forward-within p W stage end xs before r spectrum f e 32 (lit≤ tt) (samples-within p W stage end xs before r spectrum f e) .0))
 
 -- inverse, given the spectrum that forward left, leaves n times each sample; the two calls may differ in width, twiddles and scratch
-pub there-and-back : (p : Record) (W : ℕ) (stage end xs : List Float) (before : Slices) (r : Verdict) (spectrum : Slices) → Forwards p W stage end xs before r spectrum → r ≡ Accepted
-    → (W′ : ℕ) (stage′ end′ : List Float) (before′ : Slices) (r′ : Verdict) (after : Slices) → Inverts p W′ stage′ end′ (spectrum .0) before′ r′ after → r′ ≡ Accepted
+pub there-and-back : (p : Record) (W : ℕ) (stage end xs : List Float) (before : Slices) (r : Verdict) (spectrum : Slices)
+    → Forwards p W stage end xs before r spectrum → r ≡ Accepted
+    → (W′ : ℕ) (stage′ end′ : List Float) (before′ : Slices) (r′ : Verdict) (after : Slices) → Inverts p W′ stage′ end′ (spectrum .0) before′ r′ after
+    → r′ ≡ Accepted
     → (x : ℕ → ℤ) → Short (p .n) → Samples (p .n) x xs → (j : ℕ) → j < p .n → IsWhole (getD (after .0) j nan) (pos (p .n) *ℤ x j)
 there-and-back p W stage end xs before r spectrum f e W′ stage′ end′ before′ r′ after f′ e′ x short g =
     inverse-exact p W′ stage′ end′ (spectrum .0) before′ r′ after x f′ e′ short (g .small) (forward-exact p W stage end xs before r spectrum x f e short g)
@@ -119,13 +121,12 @@ module _ (p : Record) (W : ℕ) (stage end xs : List Float) (before : Slices) (r
 pub fill-bits : (d : Direction) (p : Record) (W : ℕ) (before : Slices) (r r′ : Verdict) (after after′ : Slices)
     → Fills d p W before r after → Fills d p W before r′ after′ → r ≡ Accepted → SameBits (after .0) (after′ .0) × SameBits (after .1) (after′ .1)
 fill-bits d p W before r r′ after after′ f g e =
-    let made = settled _ _ _ _ _ f (sym (f .answer) ∙ e) in
-    let same = Fills-one d p W before f g .1 in
-    let ones = filled-ones d p W in
-    let w = subst (λ (s : Slices). Words 0 (s .0) × Words 0 (s .1)) (sym made) ones in
+    let made = settled _ _ _ _ _ f (sym (f .answer) ∙ e) in let same = Fills-one d p W before f g .1 in
+    let ones = filled-ones d p W in let w = subst (λ (s : Slices). Words 0 (s .0) × Words 0 (s .1)) (sym made) ones in
     (same-bits 0 (after .0) (after′ .0) (w .0) (ap (λ (s : Slices). s .0) same), same-bits 0 (after .1) (after′ .1) (w .1) (ap (λ (s : Slices). s .1) same))
 
 -- and the bits of the sum that power answers
-pub power-bits : (xs : List Float) (lo hi : ℕ) (r r′ : Summed) → Powers xs lo hi r → Powers xs lo hi r′ → r .verdict ≡ Accepted → (b c : ℕ) → Holds b (r .power) → Holds c (r′ .power) → b ≡ c
+pub power-bits : (xs : List Float) (lo hi : ℕ) (r r′ : Summed) → Powers xs lo hi r → Powers xs lo hi r′ → r .verdict ≡ Accepted → (b c : ℕ) → Holds b (r .power)
+    → Holds c (r′ .power) → b ≡ c
 power-bits xs lo hi r r′ s s′ e b c h g =
     same-word 8194 96 b c (r .power) (power-finite xs lo hi r s e) h (subst (λ (z : Summed). Holds c (z .power)) (Powers-one xs lo hi s′ s) g)

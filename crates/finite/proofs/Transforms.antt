@@ -1,13 +1,7 @@
 -- Every number that forward and inverse write is finite: the steps of both directions, with a bound on what is read. Assumes nothing.
-use mathlib.Core.Path.{_≡_, refl, sym, ap, _∙_, subst}
-use mathlib.Core.Bool.{true}
-use mathlib.Core.List.{List, [], _∷_, _++_}
-use Prim.Native.Nat.{ℕ, zero, suc, _+_, _-_, _*_, _/_, _≤_, _<_}
-use native.Mathlib.Decide.{decLe}
-use native.Mathlib.Omega.{arith}
+use Rattle.sequences.proofs.Basics.{_≡_, refl, sym, ap, _∙_, subst, ℕ, zero, suc, _+_, _-_, _*_, _/_, _≤_, _<_, arith, decLe, true, List, [], _∷_, _++_, length}
+use Rattle.sequences.proofs.Basics.{getD, drop, length-append, length-drop, List·getD-append, getD-append-add, getD-take, getD-drop, length-take-le}
 use lib.Ieee.{Float, nan}
-use lib.ListN.{length, getD, drop, length-append, length-drop, List·getD-append}
-use lib.Seq.{getD-append-add, getD-take, getD-drop, length-take-le}
 use Rattle.counts.specs.Counts.{radix, twiddleCount, twiddleStart, stageTwiddles, endCount, resultIn}
 use Rattle.radices.specs.Lists.{product}
 use Rattle.plan.specs.Record.{isPlanned}
@@ -52,13 +46,14 @@ module _ (k : ℕ) (xs ys : List Float) (w : Words k (xs ++ ys)) where
 -- those of the stages are at most 1
 pub lent-ones : (p : Record) → isPlanned p ≡ true → (W : ℕ) → 0 < W → (tw : List Float) → length tw ≡ 2 * stageTwiddles p → Words 0 tw → Ones p (lentTo p W tw)
 lent-ones p planned W some tw long w j later known i q li first last =
-    let M = p .half / radix (inUse p) j in
-    let below = place-lt M (radix (inUse p) j) W i q some li first last in
-    let count : M * (radix (inUse p) j - 1) ≡ twiddleCount (p .half) (p .radices) j = rw (use-radix p planned j known) (count-later p planned j (λ z. omega arith) known) in
+    let M = p .half / radix (inUse p) j in let below = place-lt M (radix (inUse p) j) W i q some li first last in
+    let count : M * (radix (inUse p) j - 1) ≡ twiddleCount (p .half) (p .radices) j =
+    rw (use-radix p planned j known) (count-later p planned j (λ z. omega arith) known) in
     cell-both 0 tw w (twiddleStart (p .half) (p .radices) j + place M (radix (inUse p) j) W i q) (omega (arith, below, count, own-within p j known, long))
 
 -- and those of the ends
-pub end-ones : (p : Record) → isPlanned p ≡ true → (end : List Float) → length end ≡ 2 * endCount (p .n) → Words 0 end → (q : ℕ) → 0 < q → 2 * q < p .half → Both 1 0 (endLent end q)
+pub end-ones : (p : Record) → isPlanned p ≡ true → (end : List Float) → length end ≡ 2 * endCount (p .n) → Words 0 end → (q : ℕ) → 0 < q → 2 * q < p .half
+    → Both 1 0 (endLent end q)
 end-ones p planned end long w q first l =
     let many : q ≤ endCount (p .n) = rw (plan-twice p planned) (pairs-lent (p .half) q l) in
     cell-both 0 end w (q - 1) (omega (arith, many, long))
@@ -77,7 +72,8 @@ held-words k (suc count) b v w = go (resultIn (suc count))
 
 -- ---- forward
 
-module _ (p : Record) (W k : ℕ) (stage end xs s : List Float) (no : ℕ) (t : Forwardable p W (length xs) no (length s) (length stage) (length end)) (few : k ≤ 56)
+module _ (p : Record) (W k : ℕ) (stage end xs s : List Float) (no : ℕ) (t : Forwardable p W (length xs) no (length s) (length stage) (length end))
+    (few : k ≤ 56)
     (wx : Words k xs) (ws : Words 0 stage) (we : Words 0 end) where
   -- what the stages leave
   abbrev ran : Two Float
@@ -88,7 +84,8 @@ module _ (p : Record) (W k : ℕ) (stage end xs s : List Float) (no : ℕ) (t : 
 
   ran-words : Words (k + 5 * p .count) (ran .0) × (0 < p .count → Words (k + 5 * p .count) (ran .1))
   ran-words =
-      run-words p (t .planned) W (width-bounds W (t .width) .0) stage (lent-ones p (t .planned) W (width-bounds W (t .width) .0) stage (t .stages) ws) k (xs, padOf (p .half) s) long (pad-length (p .half) s (t .room)) wx
+      run-words p (t .planned) W (width-bounds W (t .width) .0) stage (lent-ones p (t .planned) W (width-bounds W (t .width) .0) stage (t .stages) ws) k
+      (xs, padOf (p .half) s) long (pad-length (p .half) s (t .room)) wx
       (omega (arith, plan-order p (t .planned) .few))
 
   pub forward-words : Words (k + 5 * p .count + 3) (forwardOf p W stage end xs s .0)
@@ -104,7 +101,8 @@ module _ (p : Record) (W k : ℕ) (stage end xs s : List Float) (no : ℕ) (t : 
       (λ i li. cell-both (k + 5 * p .count) Z wz i (omega (arith, lz))) j (omega arith))
 
   -- Data and, where there is a stage, the Scratchpad
-  pub forward-scratch : Words (k + 5 * p .count) (dataOf (p .half) (forwardOf p W stage end xs s .1)) × (0 < p .count → Words (k + 5 * p .count) (padOf (p .half) (forwardOf p W stage end xs s .1)))
+  pub forward-scratch : Words (k + 5 * p .count) (dataOf (p .half) (forwardOf p W stage end xs s .1))
+      × (0 < p .count → Words (k + 5 * p .count) (padOf (p .half) (forwardOf p W stage end xs s .1)))
   unfolding forwardOf forwardRun
   forward-scratch =
       let lens = run-long p W stage (xs, padOf (p .half) s) long (pad-length (p .half) s (t .room)) in (
@@ -127,24 +125,24 @@ joined-words k xs ys v w i l = pick (decLe (length xs) i)
     pick : Dec (length xs ≤ i) → AtMost 1 k (getD (xs ++ ys) i nan)
     pick (yes a) =
         let e : length xs + (i - length xs) ≡ i = omega arith in
-        subst (λ (n : ℕ). AtMost 1 k (getD (xs ++ ys) n nan)) e (subst (AtMost 1 k) (sym (getD-append-add xs ys (i - length xs) nan)) (w (i - length xs) (omega (arith, l, length-append xs ys))))
+        subst (λ (n : ℕ). AtMost 1 k (getD (xs ++ ys) n nan)) e (subst (AtMost 1 k) (sym (getD-append-add xs ys (i - length xs) nan))
+        (w (i - length xs) (omega (arith, l, length-append xs ys))))
     pick (no a) = subst (AtMost 1 k) (sym (List·getD-append xs ys nan i (omega (arith, a)))) (v i (omega (arith, a)))
 
 -- nothing but +0
 zeros-words : (k n : ℕ) → Words k (zeros n)
-zeros-words k n i l =
-    subst (AtMost 1 k) (sym (getD-tabulate n 0 (λ j. +0) i nan (rw (length-tabulate n 0 (λ j. +0)) at l))) (zero-most 1 k)
+zeros-words k n i l = subst (AtMost 1 k) (sym (getD-tabulate n 0 (λ j. +0) i nan (rw (length-tabulate n 0 (λ j. +0)) at l))) (zero-most 1 k)
 
 -- the conjugates of a row of cells
 row-words : (k h : ℕ) (xs : List Float) → length xs ≡ 2 * h → Words k xs → Words k (conjugated h xs)
 row-words k h xs e w = conjugated-words k h xs (λ j l. cell-both k xs w j (omega arith))
 
-module _ (p : Record) (W k : ℕ) (stage end xs s : List Float) (room : ℕ) (t : Invertible p W (length xs) room (length s) (length stage) (length end)) (few : k ≤ 53)
+module _ (p : Record) (W k : ℕ) (stage end xs s : List Float) (room : ℕ) (t : Invertible p W (length xs) room (length s) (length stage) (length end))
+    (few : k ≤ 53)
     (wx : Words k xs) (ws : Words 0 stage) (we : Words 0 end) where
   prepared-words : Words (k + 3) (preprocess-ifft (p .half) end xs)
   unfolding ended
-  prepared-words =
-      tabulated-words (k + 3) (p .half + 1) (endCell ifftSteps (p .half) (cell xs) (endLent end)) (λ j l.
+  prepared-words = tabulated-words (k + 3) (p .half + 1) (endCell ifftSteps (p .half) (cell xs) (endLent end)) (λ j l.
       ifft-cell k (omega arith) (p .half) (plan-some p (t .planned)) (cell xs) (endLent end) (end-ones p (t .planned) end (t .ends) we)
       (λ i li. cell-both k xs wx i (omega (arith, t .bins))) j (omega arith))
 
@@ -155,17 +153,16 @@ module _ (p : Record) (W k : ℕ) (stage end xs s : List Float) (room : ℕ) (t 
   data-words : Words (k + 3) (dataOf (p .half) q)
   unfolding preparedOf
   data-words i l =
-      let pre : List Float = preprocess-ifft (p .half) end xs in
-      let rest : List Float = drop (2 * (p .half + 1)) s in
+      let pre : List Float = preprocess-ifft (p .half) end xs in let rest : List Float = drop (2 * (p .half + 1)) s in
       let size : length pre ≡ 2 * (p .half + 1) = length-ended ifftSteps (p .half) end xs in
       let long : 2 * p .half ≤ length (pre ++ rest) = omega (arith, length-append pre rest, size) in
       let small : i < 2 * p .half = rw (length-take-le (2 * p .half) (pre ++ rest) long) at l in
-      subst (AtMost 1 (k + 3)) (sym (getD-take (2 * p .half) (pre ++ rest) i nan small ∙ List·getD-append pre rest nan i (omega (arith, size, small)))) (prepared-words i (omega (arith, size, small)))
+      subst (AtMost 1 (k + 3)) (sym (getD-take (2 * p .half) (pre ++ rest) i nan small ∙ List·getD-append pre rest nan i (omega (arith, size, small))))
+      (prepared-words i (omega (arith, size, small)))
 
   q-long : length q ≡ length s
   unfolding preparedOf
-  q-long =
-      length-append (preprocess-ifft (p .half) end xs) (drop (2 * (p .half + 1)) s)
+  q-long = length-append (preprocess-ifft (p .half) end xs) (drop (2 * (p .half + 1)) s)
       ∙ omega (arith, length-ended ifftSteps (p .half) end xs, length-drop (2 * (p .half + 1)) s, t .room, plan-some p (t .planned))
 
   abbrev started : Two Float
@@ -178,12 +175,13 @@ module _ (p : Record) (W k : ℕ) (stage end xs s : List Float) (room : ℕ) (t 
   pad-words : p .count ≡ 0 → Words (k + 3) (padOf (p .half) q)
   unfolding preparedOf
   pad-words none i l =
-      let pre : List Float = preprocess-ifft (p .half) end xs in
-      let rest : List Float = drop (2 * (p .half + 1)) s in
+      let pre : List Float = preprocess-ifft (p .half) end xs in let rest : List Float = drop (2 * (p .half + 1)) s in
       let one : p .half ≡ 1 = use-product p (t .planned) ∙ no-radices (inUse p) (use-length p (t .planned) ∙ none) in
       let size : length pre ≡ 2 * (p .half + 1) = length-ended ifftSteps (p .half) end xs in
       let small : i < 2 * p .half = rw pad-long at l in
-      subst (AtMost 1 (k + 3)) (sym (getD-take (2 * p .half) (drop (2 * p .half) (pre ++ rest)) i nan small ∙ getD-drop (2 * p .half) (pre ++ rest) i nan ∙ List·getD-append pre rest nan (2 * p .half + i) (omega (arith, size, small, one)))) (prepared-words (2 * p .half + i) (omega (arith, size, small, one)))
+      subst (AtMost 1 (k + 3)) (sym (getD-take (2 * p .half) (drop (2 * p .half) (pre ++ rest)) i nan small ∙ getD-drop (2 * p .half) (pre ++ rest) i nan
+      ∙ List·getD-append pre rest nan (2 * p .half + i) (omega (arith, size, small, one))))
+      (prepared-words (2 * p .half + i) (omega (arith, size, small, one)))
 
   -- both buffers after the stages
   back-words-of : Words (k + 3 + 5 * p .count) (runOf p W stage started .0) × Words (k + 3 + 5 * p .count) (runOf p W stage started .1)
@@ -191,7 +189,8 @@ module _ (p : Record) (W k : ℕ) (stage end xs s : List Float) (room : ℕ) (t 
     where
       ran : Words (k + 3 + 5 * p .count) (runOf p W stage started .0) × (0 < p .count → Words (k + 3 + 5 * p .count) (runOf p W stage started .1))
       ran =
-          run-words p (t .planned) W (width-bounds W (t .width) .0) stage (lent-ones p (t .planned) W (width-bounds W (t .width) .0) stage (t .stages) ws) (k + 3) started (length-conjugated (p .half) (dataOf (p .half) q)) pad-long
+          run-words p (t .planned) W (width-bounds W (t .width) .0) stage (lent-ones p (t .planned) W (width-bounds W (t .width) .0) stage (t .stages) ws)
+          (k + 3) started (length-conjugated (p .half) (dataOf (p .half) q)) pad-long
           (row-words (k + 3) (p .half) (dataOf (p .half) q) (data-length (p .half) q (rw q-long (t .room))) data-words)
           (omega (arith, plan-order p (t .planned) .few))
 
@@ -203,7 +202,8 @@ module _ (p : Record) (W k : ℕ) (stage end xs s : List Float) (room : ℕ) (t 
       go (suc n) e = ran .1 (omega arith)
 
   -- what is restored, in both buffers
-  both-restored : (which : Buffer) (b : Two Float) → length (b .0) ≡ 2 * p .half → length (b .1) ≡ 2 * p .half → Words (k + 3 + 5 * p .count) (b .0) → Words (k + 3 + 5 * p .count) (b .1)
+  both-restored : (which : Buffer) (b : Two Float) → length (b .0) ≡ 2 * p .half → length (b .1) ≡ 2 * p .half → Words (k + 3 + 5 * p .count) (b .0)
+      → Words (k + 3 + 5 * p .count) (b .1)
       → (length (restored (p .half) which b .0) ≡ 2 * p .half) × (length (restored (p .half) which b .1) ≡ 2 * p .half)
       × Words (k + 3 + 5 * p .count) (restored (p .half) which b .0) × Words (k + 3 + 5 * p .count) (restored (p .half) which b .1)
   both-restored Data b l m v w = (length-conjugated (p .half) (b .0), m, row-words (k + 3 + 5 * p .count) (p .half) (b .0) l v, w)
@@ -223,10 +223,12 @@ module _ (p : Record) (W k : ℕ) (stage end xs s : List Float) (room : ℕ) (t 
   pub inverse-words : Words (k + 3 + 5 * p .count) (inverseOf p W stage end xs s room .0)
   unfolding inverseOf inverseRun
   inverse-words =
-      joined-words (k + 3 + 5 * p .count) (restored (p .half) (resultIn (p .count)) (runOf p W stage started) .0) (zeros (room - 2 * p .half)) (restored-words .2)
+      joined-words (k + 3 + 5 * p .count) (restored (p .half) (resultIn (p .count)) (runOf p W stage started) .0) (zeros (room - 2 * p .half))
+      (restored-words .2)
       (zeros-words (k + 3 + 5 * p .count) (room - 2 * p .half))
 
-  pub inverse-scratch : Words (k + 3 + 5 * p .count) (dataOf (p .half) (inverseOf p W stage end xs s room .1)) × Words (k + 3 + 5 * p .count) (padOf (p .half) (inverseOf p W stage end xs s room .1))
+  pub inverse-scratch : Words (k + 3 + 5 * p .count) (dataOf (p .half) (inverseOf p W stage end xs s room .1))
+      × Words (k + 3 + 5 * p .count) (padOf (p .half) (inverseOf p W stage end xs s room .1))
   unfolding inverseOf inverseRun
   inverse-scratch =
       let b : Two Float = restored (p .half) (resultIn (p .count)) (runOf p W stage started) in

@@ -1,29 +1,20 @@
 -- Sums and differences of floats that are whole numbers: exact up to 2 ^ 24, and equal by equations of naturals.
 -- Assumes nothing.
-use Prim.Native.Nat.{ℕ, zero, suc, _+_, _-_, _*_, _^_, _≤_, _<_}
-use native.Mathlib.Nat.{mul-one, mul-pos, mul-comm, mul-le-mul-right, mul-lt-mul-of-pos-right, lt-of-not-le, zero-lt-suc, mul-sub}
-use native.Mathlib.Decide.{decLe}
-use native.Mathlib.Omega.{arith}
-use mathlib.Core.Path.{_≡_, refl, sym, ap, ap₂, _∙_, subst}
-use mathlib.Core.Logic.{dite}
-use mathlib.Core.Bool.{Bool, true, false, not, cond, _&&_}
-use lib.Dec.{T, ltb, leb, ltb→lt, leb→le}
+use Rattle.sequences.proofs.Basics.{_≡_, refl, sym, ap, ap₂, _∙_, subst, ℕ, zero, suc, _+_, _-_, _*_, _^_, _≤_, _<_, mul-one, mul-pos, mul-comm}
+use Rattle.sequences.proofs.Basics.{mul-le-mul-right, mul-lt-mul-of-pos-right, lt-of-not-le, zero-lt-suc, mul-sub, arith, decLe, Bool, true, false, not, cond}
+use Rattle.sequences.proofs.Basics.{_&&_, dite, T, ltb, leb, ltb→lt, leb→le, lt-ltb, le-ltb}
 use lib.IntN.{ℤ, pos, negsuc, negℤ, _+ℤ_, _-ℤ_, natAbs, subℕ, +ℤ-assoc, +ℤ-comm, +ℤ-idl, +ℤ-idr, +ℤ-negℤ-cancel, negℤ-+ℤ, negℤ-negℤ, _*ℤ_, zero-*ℤ, sucℤ-*ℤ}
 use lib.Ieee.{Float, nan, inf, fin, binary32, up, down, round, sum, add, sub, neg, ofBits}
 use lib.Ieee.Fits.{down-pos, and-l, and-r}
 use lib.Ieee.Exact.{HasValue}
 use lib.Ieee.Scale.{round-same}
 use lib.Ieee.Back.{round-whole}
-use borrow.Author.Tests.{lt-ltb, le-ltb}
 use Rattle.finite.specs.Whole.{signed, IsWhole, Small}
 
 -- ---- the sum of two fractions over z is that of equal fractions over c
 
 ltb-scale : (a b c : ℕ) → 0 < c → ltb (a * c) (b * c) ≡ ltb a b
-ltb-scale a b c h =
-    dite (decLe b a)
-    (λ (g : b ≤ a). le-ltb (a * c) (b * c) (mul-le-mul-right c g) ∙ sym (le-ltb a b g))
-    (λ (g : b ≤ a → ⊥).
+ltb-scale a b c h = dite (decLe b a) (λ (g : b ≤ a). le-ltb (a * c) (b * c) (mul-le-mul-right c g) ∙ sym (le-ltb a b g)) (λ (g : b ≤ a → ⊥).
     let l : a < b = lt-of-not-le g in
     lt-ltb (a * c) (b * c) (mul-lt-mul-of-pos-right l h) ∙ sym (lt-ltb a b l))
 
@@ -42,7 +33,13 @@ unfolding sum
 sum-same s t x y z a b c Z C p q =
     let r : (u : Bool) (n k : ℕ) → n * c ≡ k * z → round binary32 u n z ≡ round binary32 u k c = λ u n k e. round-same binary32 u n z k c Z C e in
     let both : (x + y) * c ≡ (a + b) * z = omega (arith, p, q) in
-    rw (ltb-same x y z a b c Z C p q, ltb-same y x z b a c Z C q p, r s (x + y) (a + b) both, r t (y - x) (b - a) (sub-same y x z b a c Z C q p), r (s && ltb b a) (x - y) (a - b) (sub-same x y z a b c Z C p q))
+    rw (
+      ltb-same x y z a b c Z C p q,
+      ltb-same y x z b a c Z C q p,
+      r s (x + y) (a + b) both,
+      r t (y - x) (b - a) (sub-same y x z b a c Z C q p),
+      r (s && ltb b a) (x - y) (a - b) (sub-same x y z a b c Z C p q),
+    )
 
 -- ---- the sum of floats that are ±a and ±b
 
@@ -52,10 +49,8 @@ over n d D A h = omega (arith, ap (λ (k : ℕ). k * D) h)
 
 add-at : (s t : Bool) (m n a b : ℕ) (e d : ℤ) → m * up e ≡ a * down e → n * up d ≡ b * down d → add binary32 (fin s m e) (fin t n d) ≡ sum binary32 s a t b 1
 unfolding add
-add-at s t m n a b e d v w =
-    sum-same s t (m * up e * down d) (n * up d * down e) (down e * down d) a b 1 (mul-pos (down-pos e) (down-pos d)) (zero-lt-suc 0)
-    (over (m * up e) (down e) (down d) a v)
-    (over (n * up d) (down d) (down e) b w ∙ ap (λ (k : ℕ). b * k) (mul-comm (down d) (down e)))
+add-at s t m n a b e d v w = sum-same s t (m * up e * down d) (n * up d * down e) (down e * down d) a b 1 (mul-pos (down-pos e) (down-pos d)) (zero-lt-suc 0)
+    (over (m * up e) (down e) (down d) a v) (over (n * up d) (down d) (down e) b w ∙ ap (λ (k : ℕ). b * k) (mul-comm (down d) (down e)))
 
 -- ---- signs and sizes
 
@@ -89,19 +84,15 @@ pos-less m n l =
     ap (λ (k : ℕ). pos k +ℤ negℤ (pos n)) e ∙ +ℤ-negℤ-cancel (pos (m - n)) (pos n)
 
 pos-more : (m n : ℕ) → m ≤ n → pos m +ℤ negℤ (pos n) ≡ negℤ (pos (n - m))
-pos-more m n l =
-    sym (negℤ-negℤ (pos m +ℤ negℤ (pos n)))
+pos-more m n l = sym (negℤ-negℤ (pos m +ℤ negℤ (pos n)))
     ∙ ap negℤ (negℤ-+ℤ (pos m) (negℤ (pos n)) ∙ ap (λ (z : ℤ). negℤ (pos m) +ℤ z) (negℤ-negℤ (pos n)) ∙ +ℤ-comm (negℤ (pos m)) (pos n) ∙ pos-less n m l)
 
 -- zero has either sign
 no-sign : (s : Bool) (m n : ℕ) → signed s (m - n) ≡ signed (s && ltb n m) (m - n)
 no-sign false m n = refl
-no-sign true m n =
-    dite (decLe m n)
-    (λ (g : m ≤ n).
+no-sign true m n = dite (decLe m n) (λ (g : m ≤ n).
     let e : m - n ≡ 0 = omega arith in
-    rw (le-ltb n m g, e))
-    (λ (g : m ≤ n → ⊥). rw (lt-ltb n m (lt-of-not-le g)))
+    rw (le-ltb n m g, e)) (λ (g : m ≤ n → ⊥). rw (lt-ltb n m (lt-of-not-le g)))
 
 module _ (z : ℤ) (room : natAbs z ≤ 2 ^ 24) where
   -- z by its sign and size, rounded
@@ -111,10 +102,9 @@ module _ (z : ℤ) (room : natAbs z ≤ 2 ^ 24) where
       subst (IsWhole (round binary32 s n 1)) (sym e) (round-sized s n l)
 
   -- and as a sum of unlike signs
-  unlike-to : (s t : Bool) (m n : ℕ) → (m ≤ n → z ≡ signed t (n - m)) → (n ≤ m → z ≡ signed s (m - n)) → IsWhole (cond (ltb m n) (round binary32 t (n - m) 1) (round binary32 (s && ltb n m) (m - n) 1)) z
-  unlike-to s t m n more less =
-      dite (decLe n m)
-      (λ (g : n ≤ m). rw (le-ltb m n g) (round-to (s && ltb n m) (m - n) (less g ∙ no-sign s m n)))
+  unlike-to : (s t : Bool) (m n : ℕ) → (m ≤ n → z ≡ signed t (n - m)) → (n ≤ m → z ≡ signed s (m - n))
+      → IsWhole (cond (ltb m n) (round binary32 t (n - m) 1) (round binary32 (s && ltb n m) (m - n) 1)) z
+  unlike-to s t m n more less = dite (decLe n m) (λ (g : n ≤ m). rw (le-ltb m n g) (round-to (s && ltb n m) (m - n) (less g ∙ no-sign s m n)))
       (λ (g : n ≤ m → ⊥). rw (lt-ltb m n (lt-of-not-le g)) (round-to t (n - m) (more (omega (arith, g)))))
 
 sum-to : (s t : Bool) (m n : ℕ) → natAbs (signed s m +ℤ signed t n) ≤ 2 ^ 24 → IsWhole (sum binary32 s m t n 1) (signed s m +ℤ signed t n)
@@ -122,7 +112,8 @@ unfolding sum
 sum-to false false m n l = round-to (pos (m + n)) l false (m + n) refl
 sum-to true true m n l = round-to (negℤ (pos m) +ℤ negℤ (pos n)) l true (m + n) (sym (negℤ-+ℤ (pos m) (pos n)))
 sum-to false true m n l = unlike-to (pos m +ℤ negℤ (pos n)) l false true m n (pos-more m n) (pos-less m n)
-sum-to true false m n l = unlike-to (negℤ (pos m) +ℤ pos n) l true false m n (λ g. +ℤ-comm (negℤ (pos m)) (pos n) ∙ pos-less n m g) (λ g. +ℤ-comm (negℤ (pos m)) (pos n) ∙ pos-more n m g)
+sum-to true false m n l = unlike-to (negℤ (pos m) +ℤ pos n) l true false m n (λ g. +ℤ-comm (negℤ (pos m)) (pos n) ∙ pos-less n m g)
+    (λ g. +ℤ-comm (negℤ (pos m)) (pos n) ∙ pos-more n m g)
 
 -- ---- the laws
 
@@ -133,7 +124,8 @@ add-whole (fin s m e) nan a b v w l = absurd w
 add-whole (fin s m e) (inf t) a b v w l = absurd w
 add-whole (fin s m e) (fin t n d) a b v w l =
     let same : signed s (natAbs a) +ℤ signed t (natAbs b) ≡ a +ℤ b = ap₂ _+ℤ_ (v .1) (w .1) in
-    rw (add-at s t m n (natAbs a) (natAbs b) e d (v .0) (w .0)) (subst (IsWhole (sum binary32 s (natAbs a) t (natAbs b) 1)) same (sum-to s t (natAbs a) (natAbs b) (rw same l)))
+    rw (add-at s t m n (natAbs a) (natAbs b) e d (v .0) (w .0))
+    (subst (IsWhole (sum binary32 s (natAbs a) t (natAbs b) 1)) same (sum-to s t (natAbs a) (natAbs b) (rw same l)))
 
 pub neg-whole : (x : Float) (a : ℤ) → IsWhole x a → IsWhole (neg x) (negℤ a)
 unfolding neg
@@ -170,19 +162,14 @@ below (pos n) = 0
 below (negsuc n) = suc n
 
 exchanged : (a b c d : ℤ) → a +ℤ b +ℤ (c +ℤ d) ≡ a +ℤ c +ℤ (b +ℤ d)
-exchanged a b c d =
-    +ℤ-assoc a b (c +ℤ d)
-    ∙ ap (λ (z : ℤ). a +ℤ z) (sym (+ℤ-assoc b c d) ∙ ap (λ (z : ℤ). z +ℤ d) (+ℤ-comm b c) ∙ +ℤ-assoc c b d)
+exchanged a b c d = +ℤ-assoc a b (c +ℤ d) ∙ ap (λ (z : ℤ). a +ℤ z) (sym (+ℤ-assoc b c d) ∙ ap (λ (z : ℤ). z +ℤ d) (+ℤ-comm b c) ∙ +ℤ-assoc c b d)
     ∙ sym (+ℤ-assoc a c (b +ℤ d))
 
 -- equal differences of naturals
 level : (p q r s : ℕ) → p + s ≡ r + q → pos p -ℤ pos q ≡ pos r -ℤ pos s
-level p q r s e =
-    dite (decLe q p)
-    (λ (g : q ≤ p).
+level p q r s e = dite (decLe q p) (λ (g : q ≤ p).
     let same : p - q ≡ r - s = omega arith in
-    pos-less p q g ∙ ap pos same ∙ sym (pos-less r s (omega arith)))
-    (λ (g : q ≤ p → ⊥).
+    pos-less p q g ∙ ap pos same ∙ sym (pos-less r s (omega arith))) (λ (g : q ≤ p → ⊥).
     let same : q - p ≡ s - r = omega (arith, g) in
     pos-more p q (omega (arith, g)) ∙ ap (λ (k : ℕ). negℤ (pos k)) same ∙ sym (pos-more r s (omega (arith, g))))
 
@@ -222,11 +209,9 @@ module _ (x : ℕ → ℤ) where
       go : (z : ℤ) → z ≡ pos (above z) -ℤ pos (below z)
       go (pos n) = sym (+ℤ-idr (pos n))
       go (negsuc n) = sym (+ℤ-idl (negsuc n))
-  difference (minus a) =
-      ap negℤ (difference a) ∙ negℤ-+ℤ (pos (part false a)) (negℤ (pos (part true a)))
+  difference (minus a) = ap negℤ (difference a) ∙ negℤ-+ℤ (pos (part false a)) (negℤ (pos (part true a)))
       ∙ ap (λ (z : ℤ). negℤ (pos (part false a)) +ℤ z) (negℤ-negℤ (pos (part true a))) ∙ +ℤ-comm (negℤ (pos (part false a))) (pos (part true a))
-  difference (a ⊕ b) =
-      ap₂ _+ℤ_ (difference a) (difference b)
+  difference (a ⊕ b) = ap₂ _+ℤ_ (difference a) (difference b)
       ∙ exchanged (pos (part false a)) (negℤ (pos (part true a))) (pos (part false b)) (negℤ (pos (part true b)))
       ∙ ap (λ (z : ℤ). pos (part false a + part false b) +ℤ z) (sym (negℤ-+ℤ (pos (part true a)) (pos (part true b))))
 

@@ -1,14 +1,7 @@
 -- Laws of sizes of words: what a scan tells of a row, its cells, and what a run of stages leaves in both buffers. Assumes nothing.
-use mathlib.Core.Path.{_≡_, refl, sym, subst}
-use mathlib.Core.Bool.{Bool, true, false}
-use mathlib.Core.List.{List, [], _∷_}
-use Prim.Native.Nat.{ℕ, zero, suc, _+_, _*_, _%_, _≤_, _<_}
-use native.Mathlib.Nat.{le-of-lt}
-use native.Mathlib.Omega.{arith}
-use lib.Dec.{eqb, lit≤}
+use Rattle.sequences.proofs.Basics.{_≡_, refl, sym, subst, ℕ, zero, suc, _+_, _*_, _%_, _≤_, _<_, le-of-lt, arith, Bool, true, false, List, [], _∷_, eqb, lit≤}
+use Rattle.sequences.proofs.Basics.{length, getD, eqb-false, eqb-true}
 use lib.Ieee.{Float, nan}
-use lib.ListN.{length, getD}
-use borrow.Author.Tests.{eqb-false, eqb-true}
 use Rattle.counts.specs.Counts.{radix, stride}
 use Rattle.plan.specs.Record.{isPlanned}
 use Rattle.plan.specs.declared.Record.{Record}
@@ -43,8 +36,7 @@ pub cell-both : (k : ℕ) (xs : List Float) → Words k xs → (n : ℕ) → 2 *
 cell-both k xs w n l = record { re = w (2 * n) (omega arith); im = w (2 * n + 1) l }
 
 pub words-cells : (k h : ℕ) (xs : List Float) → length xs ≡ 2 * h → Words k xs → All 1 k h (paired xs)
-words-cells k h xs e w n ln =
-    subst (Both 1 k) (sym (get-paired xs n (omega arith))) (record { re = w (2 * n) (omega arith); im = w (2 * n + 1) (omega arith) })
+words-cells k h xs e w n ln = subst (Both 1 k) (sym (get-paired xs n (omega arith))) (record { re = w (2 * n) (omega arith); im = w (2 * n + 1) (omega arith) })
 
 pub cells-words : (k : ℕ) (zs : List Complex) → All 1 k (length zs) zs → Words k (flat zs)
 unfolding flat
@@ -65,14 +57,16 @@ module _ (p : Record) (planned : isPlanned p ≡ true) (W : ℕ) (some : 0 < W) 
   stage-words j k l few xs e w =
       let made = stage plain (floats (lentTo p W tw)) (p .half) (inUse p) j (paired xs) in
       let sized = stage-all p planned (lentTo p W tw) j k l few (λ later. ones j later l) (paired xs) (words-cells k (p .half) xs e w) in
-      subst (Words (k + 5)) (sym (stage-lent p planned W some tw j l xs)) (cells-words (k + 5) made (λ n ln. sized n (rw (stage-cells p (lentTo p W tw) j (paired xs)) at ln)))
+      subst (Words (k + 5)) (sym (stage-lent p planned W some tw j l xs))
+      (cells-words (k + 5) made (λ n ln. sized n (rw (stage-cells p (lentTo p W tw) j (paired xs)) at ln)))
 
   -- both buffers after n stages: Data, and the Scratchpad once it is written
   both-words : (k : ℕ) (b : Two Float) → length (b .0) ≡ 2 * p .half → length (b .1) ≡ 2 * p .half → Words k (b .0) → (n : ℕ) → n ≤ p .count → k + 5 * n ≤ 121
       → Words (k + 5 * n) (alternated (stageIn p W tw) n b .0) × (0 < n → Words (k + 5 * n) (alternated (stageIn p W tw) n b .1))
   unfolding alternated
   both-words k b l m w zero ln few = (subst (λ (a : ℕ). Words a (b .0)) (omega arith) w, λ z. absurd (omega arith))
-  both-words k b l m w (suc n) ln few = go (eqb (n % 2) 0) refl (both-words k b l m w n (le-of-lt ln) (omega arith)) (both-long (stageIn p W tw) b (2 * p .half) (λ j zs. length-made p j W (ownOf p tw j) zs) l m n)
+  both-words k b l m w (suc n) ln few = go (eqb (n % 2) 0) refl (both-words k b l m w n (le-of-lt ln) (omega arith))
+      (both-long (stageIn p W tw) b (2 * p .half) (λ j zs. length-made p j W (ownOf p tw j) zs) l m n)
     where
       more : k + 5 * n + 5 ≡ k + 5 * suc n
       more = omega arith
@@ -83,7 +77,8 @@ module _ (p : Record) (planned : isPlanned p ≡ true) (W : ℕ) (some : 0 < W) 
       next : (xs : List Float) → length xs ≡ 2 * p .half → Words (k + 5 * n) xs → Words (k + 5 * suc n) (stageIn p W tw n xs)
       next xs e v = subst (λ (a : ℕ). Words a (stageIn p W tw n xs)) more (stage-words n (k + 5 * n) ln (omega arith) xs e v)
 
-      go : (t : Bool) → eqb (n % 2) 0 ≡ t → Words (k + 5 * n) (alternated (stageIn p W tw) n b .0) × (0 < n → Words (k + 5 * n) (alternated (stageIn p W tw) n b .1))
+      go : (t : Bool) → eqb (n % 2) 0 ≡ t → Words (k + 5 * n) (alternated (stageIn p W tw) n b .0)
+          × (0 < n → Words (k + 5 * n) (alternated (stageIn p W tw) n b .1))
           → (length (alternated (stageIn p W tw) n b .0) ≡ 2 * p .half) × (length (alternated (stageIn p W tw) n b .1) ≡ 2 * p .half)
           → Words (k + 5 * suc n) (across t (stageIn p W tw n) (alternated (stageIn p W tw) n b) .0)
           × (0 < suc n → Words (k + 5 * suc n) (across t (stageIn p W tw n) (alternated (stageIn p W tw) n b) .1))
@@ -102,7 +97,9 @@ module _ (p : Record) (planned : isPlanned p ≡ true) (W : ℕ) (some : 0 < W) 
   unfolding driven
   run-words k b l m w few = go (eqb (p .count) 1) refl (both-words k b l m w (p .count) (omega arith) few)
     where
-      go : (t : Bool) → eqb (p .count) 1 ≡ t → Words (k + 5 * p .count) (alternated (stageIn p W tw) (p .count) b .0) × (0 < p .count → Words (k + 5 * p .count) (alternated (stageIn p W tw) (p .count) b .1))
-          → Words (k + 5 * p .count) (copiedBy t (alternated (stageIn p W tw) (p .count) b) .0) × (0 < p .count → Words (k + 5 * p .count) (copiedBy t (alternated (stageIn p W tw) (p .count) b) .1))
+      go : (t : Bool) → eqb (p .count) 1 ≡ t → Words (k + 5 * p .count) (alternated (stageIn p W tw) (p .count) b .0)
+          × (0 < p .count → Words (k + 5 * p .count) (alternated (stageIn p W tw) (p .count) b .1))
+          → Words (k + 5 * p .count) (copiedBy t (alternated (stageIn p W tw) (p .count) b) .0)
+          × (0 < p .count → Words (k + 5 * p .count) (copiedBy t (alternated (stageIn p W tw) (p .count) b) .1))
       go true e v = let one = eqb-true (p .count) 1 e in (v .1 (omega arith), v .1)
       go false e v = v

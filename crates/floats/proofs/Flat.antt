@@ -1,12 +1,7 @@
 -- A flat list and its cells, those of a part of it, and one cell written.
 -- Assumes nothing.
-use mathlib.Core.Path.{_≡_, refl, sym, ap, ap₂, _∙_}
-use mathlib.Core.Logic.{_≢_}
-use mathlib.Core.List.{List, [], _∷_, _++_}
-use Prim.Native.Nat.{ℕ, zero, suc, _+_, _*_, _<_}
-use native.Mathlib.Omega.{arith}
-use lib.ListN.{length, getD, set, take, drop, length-set, List·getD-append}
-use lib.Seq.{getD-set-same, getD-set-other, getD-take, getD-drop, getD-append-add}
+use Rattle.sequences.proofs.Basics.{_≡_, refl, sym, ap, ap₂, _∙_, ℕ, zero, suc, _+_, _*_, _<_, arith, _≢_, List, [], _∷_, _++_, length, getD, set, take, drop}
+use Rattle.sequences.proofs.Basics.{length-set, List·getD-append, getD-set-same, getD-set-other, getD-take, getD-drop, getD-append-add}
 use lib.Ieee.{Float, nan}
 use Rattle.floats.specs.declared.complex.Complex.{Complex}
 use Rattle.floats.specs.Complexes.{cx, blank, cell, putCell, paired, flat}
@@ -58,17 +53,14 @@ pub cell-back : (xs ys : List Float) (n j : ℕ) → length xs ≡ 2 * n → cel
 cell-back xs ys n j l =
     let even : 2 * (n + j) ≡ length xs + 2 * j = omega arith in
     let odd : 2 * (n + j) + 1 ≡ length xs + (2 * j + 1) = omega arith in
-    ap₂ cx
-    (ap (λ (i : ℕ). getD (xs ++ ys) i nan) even ∙ getD-append-add xs ys (2 * j) nan)
+    ap₂ cx (ap (λ (i : ℕ). getD (xs ++ ys) i nan) even ∙ getD-append-add xs ys (2 * j) nan)
     (ap (λ (i : ℕ). getD (xs ++ ys) i nan) odd ∙ getD-append-add xs ys (2 * j + 1) nan)
 
 pub cell-take : (xs : List Float) (n j : ℕ) → j < n → cell (take (2 * n) xs) j ≡ cell xs j
 cell-take xs n j l = ap₂ cx (getD-take (2 * n) xs (2 * j) nan (omega arith)) (getD-take (2 * n) xs (2 * j + 1) nan (omega arith))
 
 pub cell-drop : (xs : List Float) (n j : ℕ) → cell (drop (2 * n) xs) j ≡ cell xs (n + j)
-cell-drop xs n j =
-    ap₂ cx
-    (getD-drop (2 * n) xs (2 * j) nan ∙ ap (λ (i : ℕ). getD xs i nan) (omega arith))
+cell-drop xs n j = ap₂ cx (getD-drop (2 * n) xs (2 * j) nan ∙ ap (λ (i : ℕ). getD xs i nan) (omega arith))
     (getD-drop (2 * n) xs (2 * j + 1) nan ∙ ap (λ (i : ℕ). getD xs i nan) (omega arith))
 
 -- ---- one cell written
@@ -78,11 +70,8 @@ module _ (xs : List Float) (k : ℕ) (z : Complex) where
   length-put = simp length-set
 
   pub get-put : 2 * k + 1 < length xs → cell (putCell xs k z) k ≡ z
-  get-put l =
-      ap₂ cx
-      (getD-set-other (set xs (2 * k) (z .re)) (2 * k + 1) (2 * k) (z .im) nan (λ e. omega arith)
-      ∙ getD-set-same xs (2 * k) (z .re) nan (omega arith))
-      (getD-set-same (set xs (2 * k) (z .re)) (2 * k + 1) (z .im) nan (simp length-set l))
+  get-put l = ap₂ cx (getD-set-other (set xs (2 * k) (z .re)) (2 * k + 1) (2 * k) (z .im) nan (λ e. omega arith)
+      ∙ getD-set-same xs (2 * k) (z .re) nan (omega arith)) (getD-set-same (set xs (2 * k) (z .re)) (2 * k + 1) (z .im) nan (simp length-set l))
 
   pub get-other : (n : ℕ) → n ≢ k → cell (putCell xs k z) n ≡ cell xs n
   get-other n ne = ap₂ cx (kept (2 * n) (λ e. omega (arith, ne)) (λ e. omega arith)) (kept (2 * n + 1) (λ e. omega arith) (λ e. omega (arith, ne)))

@@ -1,18 +1,9 @@
 -- The first number at which a test fails, step by step; where there is none; and that the test at a bound 2 ^ k is the definition's. Assumes nothing.
-use Prim.Native.Nat.{ℕ, zero, suc, _+_, _-_, _*_, _/_, _%_, _^_, _<_, _≤_}
-use native.Mathlib.Nat.{mul-one, one-mul, mul-pos, eq-or-lt-of-le, lt-of-not-le, add-zero}
-use native.Mathlib.Omega.{arith}
-use mathlib.Core.Path.{_≡_, refl, sym, ap, subst, _∙_}
-use mathlib.Core.Logic.{inl, inr, dite}
-use native.Mathlib.Decide.{decLe, ℕ-discrete}
-use mathlib.Core.Bool.{Bool, true, false, not, _&&_, _||_}
-use mathlib.Core.List.{List}
-use lib.Dec.{ltb, leb, eqb}
-use lib.ListN.{length, getD, drop}
-use lib.Pow.{pow-pos, pow-lt}
+use Rattle.sequences.proofs.Basics.{_≡_, refl, sym, ap, subst, _∙_, ℕ, zero, suc, _+_, _-_, _*_, _/_, _%_, _^_, _<_, _≤_, mul-one, one-mul, mul-pos}
+use Rattle.sequences.proofs.Basics.{eq-or-lt-of-le, lt-of-not-le, add-zero, arith, decLe, ℕ-discrete, Bool, true, false, not, _&&_, _||_, inl, inr, dite, List}
+use Rattle.sequences.proofs.Basics.{ltb, leb, eqb, length, getD, drop, pow-pos, pow-lt, not-false, leb-true, lt-ltb, le-ltb, le-leb, lt-leb, eq-eqb, ne-eqb}
 use lib.Ieee.{Float, nan, inf, fin, le, lt, eq, neg, up, down, binary32, ofBits}
 use lib.Ieee.Fits.{down-pos}
-use borrow.Author.Tests.{not-false, leb-true, lt-ltb, le-ltb, le-leb, lt-leb, eq-eqb, ne-eqb}
 use Rattle.sequences.proofs.First.{first-skip, first-same, none-passes, each-fails}
 use Rattle.floats.specs.declared.complex.Complex.{Complex}
 use Rattle.floats.specs.Complexes.{cell}
@@ -24,15 +15,14 @@ pub first-pass : (p : Float → Bool) (xs : List Float) (i : ℕ) → i < length
 first-pass p xs i h t e = first-skip nan (λ (x : Float). not (p x)) xs i h (ap not t) e
 
 -- the same of the k-th number from i on
-pub pass-on : (b : Float) (xs : List Float) (i k : ℕ) → i + k < length xs → within b (getD xs (i + k) nan) ≡ true → Passed b xs (i + k) → Passed b xs (i + (k + 1))
-pass-on b xs i k h t p =
-    subst (Passed b xs) {x = i + k + 1} {y = i + (k + 1)} (omega arith) (first-pass (within b) xs (i + k) h t p)
+pub pass-on : (b : Float) (xs : List Float) (i k : ℕ) → i + k < length xs → within b (getD xs (i + k) nan) ≡ true → Passed b xs (i + k)
+    → Passed b xs (i + (k + 1))
+pass-on b xs i k h t p = subst (Passed b xs) {x = i + k + 1} {y = i + (k + 1)} (omega arith) (first-pass (within b) xs (i + k) h t p)
 
 -- and of so many
 pub pass-all : (b : Float) (xs : List Float) (i n : ℕ) → i + n ≤ length xs → AllWithin b xs i n → Passed b xs i → Passed b xs (i + n)
 pass-all b xs i zero l w p = subst (Passed b xs) (sym (add-zero i)) p
-pass-all b xs i (suc n) l w p =
-    subst (λ (m : ℕ). Passed b xs (i + m)) {x = n + 1} {y = suc n} (omega arith)
+pass-all b xs i (suc n) l w p = subst (λ (m : ℕ). Passed b xs (i + m)) {x = n + 1} {y = suc n} (omega arith)
     (pass-on b xs i n (omega arith) (w n (omega arith)) (pass-all b xs i n (omega arith) (λ k lk. w k (omega arith)) p))
 
 -- one number more
@@ -44,11 +34,12 @@ within-next b xs i k t w j lj = pick (ℕ-discrete j k)
     pick (no e) = w j (omega (arith, e))
 
 -- and to the end, where the last n numbers are, of which the first are looked at once more
-pub pass-end : (b : Float) (xs : List Float) (i n : ℕ) → i ≤ length xs → n ≤ length xs → length xs - n ≤ i → AllWithin b xs (length xs - n) n → Passed b xs i → Passed b xs (length xs)
-pass-end b xs i n li ln lt w p =
-    subst (Passed b xs) {x = i + (length xs - i)} {y = length xs} (omega arith)
+pub pass-end : (b : Float) (xs : List Float) (i n : ℕ) → i ≤ length xs → n ≤ length xs → length xs - n ≤ i → AllWithin b xs (length xs - n) n → Passed b xs i
+    → Passed b xs (length xs)
+pass-end b xs i n li ln lt w p = subst (Passed b xs) {x = i + (length xs - i)} {y = length xs} (omega arith)
     (pass-all b xs i (length xs - i) (omega arith) (λ k lk.
-    subst (λ (j : ℕ). within b (getD xs j nan) ≡ true) {x = length xs - n + (i + k - (length xs - n))} {y = i + k} (omega arith) (w (i + k - (length xs - n)) (omega arith))) p)
+    subst (λ (j : ℕ). within b (getD xs j nan) ≡ true) {x = length xs - n + (i + k - (length xs - n))} {y = i + k} (omega arith)
+    (w (i + k - (length xs - n)) (omega arith))) p)
 
 -- ---- where there is none
 
@@ -83,14 +74,10 @@ and-true false = refl
 
 -- a < b or a = b, however the equality is written
 or-eq : (a b : ℕ) (q : Bool) → (a ≡ b → q ≡ true) → ((a ≡ b → ⊥) → q ≡ false) → (ltb a b || (q && true)) ≡ leb a b
-or-eq a b q y n =
-    dite (decLe a b)
-    (λ (h : a ≤ b).
-    elim (eq-or-lt-of-le h) [
-      | inl e ↦ simp (le-ltb a b (omega arith), y e, le-leb a b h)
-      | inr l ↦ simp (lt-ltb a b l, le-leb a b h)
-    ])
-    (λ (h : a ≤ b → ⊥).
+or-eq a b q y n = dite (decLe a b) (λ (h : a ≤ b). elim (eq-or-lt-of-le h) [
+  | inl e ↦ simp (le-ltb a b (omega arith), y e, le-leb a b h)
+  | inr l ↦ simp (lt-ltb a b l, le-leb a b h)
+]) (λ (h : a ≤ b → ⊥).
     let g : b < a = lt-of-not-le h in
     simp (le-ltb a b (omega arith), n (λ (e : a ≡ b). omega arith), lt-leb a b g))
 
@@ -99,8 +86,7 @@ above : (a b : ℕ) (u : Bool) → 0 < b → ((ltb a b || (eqb a b && true)) && 
 above a b u h = rw (or-eq a b (eqb a b) (eq-eqb a b) (ne-eqb a b), lt-ltb 0 (b + a) (omega arith)) (and-true (leb a b))
 
 below : (a b : ℕ) (u : Bool) → 0 < b → ((ltb 0 (a + b) || u) && (ltb a b || (eqb b a && true))) ≡ leb a b
-below a b u h =
-    rw (lt-ltb 0 (a + b) (omega arith))
+below a b u h = rw (lt-ltb 0 (a + b) (omega arith))
     (or-eq a b (eqb b a) (λ (e : a ≡ b). eq-eqb b a (sym e)) (λ (n : a ≡ b → ⊥). ne-eqb b a (λ (e : b ≡ a). n (sym e))))
 
 pub within-fits : (k : ℕ) (x : Float) → within (bound k) x ≡ fits k x
@@ -119,12 +105,8 @@ limit = refl
 -- no other power of two up to it is larger
 powers : (k : ℕ) → le (bound k) (bound 48) ≡ true → k ≤ 48
 unfolding le
-powers k e =
-    dite (decLe k 48)
-    (λ (h : k ≤ 48). h)
-    (λ (h : k ≤ 48 → ⊥).
-    let a = 1 * 2 ^ k * 1 in
-    let b = 1 * 2 ^ 48 * 1 in
+powers k e = dite (decLe k 48) (λ (h : k ≤ 48). h) (λ (h : k ≤ 48 → ⊥).
+    let a = 1 * 2 ^ k * 1 in let b = 1 * 2 ^ 48 * 1 in
     let l : a ≤ b = leb-true a b (sym (or-eq a b (eqb a b) (eq-eqb a b) (ne-eqb a b)) ∙ e) in
     let g : 2 ^ 48 < 2 ^ k = pow-lt (lt-of-not-le h) in
     absurd (omega arith))
@@ -135,7 +117,8 @@ power-below b k e t = powers k (ap (λ (x : Float). le x (bound 48)) (sym e) ∙
 -- so a scan at 2 ^ k finds the first number that does not fit
 pub first-unfit : (b : Float) (xs : List Float) (n : ℕ) → n ≡ firstNot (within b) xs → (k : ℕ) → b ≡ bound k → n ≡ firstUnfit k xs
 unfolding firstUnfit
-first-unfit b xs n e k f = e ∙ ap (λ (c : Float). firstNot (within c) xs) f ∙ first-same (λ (x : Float). not (within (bound k) x)) (λ (x : Float). not (fits k x)) xs (λ x. ap not (within-fits k x))
+first-unfit b xs n e k f = e ∙ ap (λ (c : Float). firstNot (within c) xs) f
+    ∙ first-same (λ (x : Float). not (within (bound k) x)) (λ (x : Float). not (fits k x)) xs (λ x. ap not (within-fits k x))
 
 -- of two tests the second decides where the first passes, and else the first
 pub second-decides : (p q : Bool) → p ≡ true → q ≡ (p && q)

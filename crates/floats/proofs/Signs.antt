@@ -1,6 +1,5 @@
 -- Laws of signs: a number negated twice, and a cell conjugated twice. Assumes nothing.
-use mathlib.Core.Path.{_≡_, refl, ap}
-use mathlib.Core.Bool.{Bool, true, false, not}
+use Rattle.sequences.proofs.Basics.{_≡_, refl, ap, Bool, true, false, not}
 use lib.Ieee.{Float, nan, inf, fin, neg}
 use Rattle.floats.specs.declared.complex.Complex.{Complex}
 use Rattle.floats.specs.Complexes.{cx, conjugate}

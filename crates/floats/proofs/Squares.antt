@@ -1,21 +1,14 @@
 -- A float whose rounded square is at most that of 2 ^ k is at most 2 ^ k in magnitude: the next f32 above 2 ^ k has a square above 2 ^ 2k * (1 + 2 ^ -22), which is an f32.
 -- Assumes nothing.
-use Prim.Native.Nat.{ℕ, zero, suc, _+_, _-_, _*_, _%_, _^_, _<_, _≤_}
-use native.Mathlib.Nat.{le-trans, le-of-eq, lt-of-le-of-lt, lt-of-not-le, mul-le-mul, mul-le-mul-right, mul-pos, one-mul}
-use native.Mathlib.Decide.{decLe}
-use native.Mathlib.Omega.{arith}
-use mathlib.Core.Path.{_≡_, refl, sym, ap, _∙_}
-use mathlib.Core.Logic.{dite}
-use mathlib.Core.Bool.{Bool, true, false, _&&_, false≢true}
-use lib.Dec.{T, ltb, leb, eqb, ltb→lt}
+use Rattle.sequences.proofs.Basics.{_≡_, refl, sym, ap, _∙_, ℕ, zero, suc, _+_, _-_, _*_, _%_, _^_, _<_, _≤_, le-trans, le-of-eq, lt-of-le-of-lt, lt-of-not-le}
+use Rattle.sequences.proofs.Basics.{mul-le-mul, mul-le-mul-right, mul-pos, one-mul, arith, decLe, Bool, true, false, _&&_, false≢true, dite, T, ltb, leb, eqb}
+use Rattle.sequences.proofs.Basics.{ltb→lt, pow-add, pow-pos, pow-mono, pow-lt, le-leb}
 use lib.IntN.{ℤ, pos, negsuc}
-use lib.Pow.{pow-add, pow-pos, pow-mono, pow-lt}
 use lib.Ieee.{Float, nan, inf, fin, binary32, fits, le, mul, round, up, down}
 use lib.Ieee.Exact.{HasValue, round-exact}
 use lib.Ieee.Fits.{and-l, and-r, down-pos}
 use lib.Ieee.Order.{round-mono}
 use lib.Ieee.Positive.{between, le-trans-positive, positive-of-value, values-of-le}
-use borrow.Author.Tests.{le-leb}
 use Rattle.floats.specs.Scan.{fits as Scan·fits, bound, SquaresTell}
 use Rattle.floats.proofs.Scan.{within-fits}
 
@@ -23,12 +16,9 @@ use Rattle.floats.proofs.Scan.{within-fits}
 
 -- a whole number of 24 digits above a power of two
 above-power : (m a : ℕ) → m < 2 ^ 24 → 2 ^ a < m → 8388609 * 2 ^ a ≤ m * 8388608
-above-power m a small l =
-    dite (decLe 24 a)
-    (λ (g : 24 ≤ a).
+above-power m a small l = dite (decLe 24 a) (λ (g : 24 ≤ a).
     let p : 2 ^ 24 ≤ 2 ^ a = pow-mono g in
-    absurd (omega arith))
-    (λ (g : 24 ≤ a → ⊥).
+    absurd (omega arith)) (λ (g : 24 ≤ a → ⊥).
     let p : 2 ^ a ≤ 2 ^ 23 = pow-mono {i = a} {j = 23} (omega (arith, g)) in
     omega arith)
 
@@ -43,23 +33,17 @@ gap k m (negsuc j) small l =
     let e : 2 ^ (k + suc j) ≡ 2 ^ k * 2 ^ suc j = pow-add 2 k (suc j) in
     let a : 8388609 * 2 ^ (k + suc j) ≤ m * 8388608 = above-power m (k + suc j) small (rw e (omega arith)) in
     le-trans (le-of-eq (ap (λ (n : ℕ). 8388609 * n) (sym e))) (le-trans a (le-of-eq (omega arith)))
-gap k m (pos j) small l =
-    dite (decLe k j)
-    (λ (g : k ≤ j).
+gap k m (pos j) small l = dite (decLe k j) (λ (g : k ≤ j).
     let e : 2 ^ j ≡ 2 ^ (j - k) * 2 ^ k = ap (λ (n : ℕ). 2 ^ n) (omega arith) ∙ pow-add 2 (j - k) k in
     let r : m * 2 ^ j ≡ m * 2 ^ (j - k) * 2 ^ k = ap (λ (n : ℕ). m * n) e ∙ omega arith in
-    le-trans (twice (m * 2 ^ (j - k)) (2 ^ k) (omega (arith, r))) (le-of-eq (ap (λ (n : ℕ). n * 8388608) (sym r))))
-    (λ (g : k ≤ j → ⊥).
+    le-trans (twice (m * 2 ^ (j - k)) (2 ^ k) (omega (arith, r))) (le-of-eq (ap (λ (n : ℕ). n * 8388608) (sym r)))) (λ (g : k ≤ j → ⊥).
     let e : 2 ^ k ≡ 2 ^ (k - j) * 2 ^ j = ap (λ (n : ℕ). 2 ^ n) {x = k} {y = (k - j) + j} (omega (arith, g)) ∙ pow-add 2 (k - j) j in
     shifted m (2 ^ (k - j)) (2 ^ j) (2 ^ k) e (λ h. above-power m (k - j) small h) l)
   where
     shifted : (m p u v : ℕ) → v ≡ p * u → (p < m → 8388609 * p ≤ m * 8388608) → v * 1 < m * u → 8388609 * (v * 1) ≤ m * u * 8388608
-    shifted m p u v e f l =
-        dite (decLe m p)
-        (λ (g : m ≤ p).
+    shifted m p u v e f l = dite (decLe m p) (λ (g : m ≤ p).
         let n : m * u ≤ p * u = mul-le-mul-right u g in
-        absurd (omega (arith, e)))
-        (λ (g : m ≤ p → ⊥).
+        absurd (omega (arith, e))) (λ (g : m ≤ p → ⊥).
         let n : 8388609 * p * u ≤ m * 8388608 * u = mul-le-mul-right u (f (lt-of-not-le g)) in
         omega (arith, e))
 
@@ -80,19 +64,20 @@ module _ (k : ℕ) (l : k ≤ 63) where
   square = squared k
 
   under : (q i : ℕ) → q < 2 ^ 23 → i ≤ 253 → q * 2 ^ i < 2 ^ 277
-  under q i a b = lt-of-le-of-lt (le-trans (mul-le-mul-right (2 ^ i) (omega arith)) (le-of-eq (sym (pow-add 2 23 i)))) (pow-lt {i = 23 + i} {j = 277} (omega arith))
+  under q i a b = lt-of-le-of-lt (le-trans (mul-le-mul-right (2 ^ i) (omega arith)) (le-of-eq (sym (pow-add 2 23 i))))
+      (pow-lt {i = 23 + i} {j = 277} (omega arith))
 
   step-value : HasValue step false (4194305 * (2 ^ k * 2 ^ k)) 4194304
   step-value =
-      round-exact binary32 false (4194305 * (2 ^ k * 2 ^ k)) 4194304 4194305 (127 + (k + k)) (omega arith) (omega arith) (under 4194305 (127 + (k + k)) (omega arith) (omega arith))
+      round-exact binary32 false (4194305 * (2 ^ k * 2 ^ k)) 4194304 4194305 (127 + (k + k)) (omega arith) (omega arith)
+      (under 4194305 (127 + (k + k)) (omega arith) (omega arith))
       (regroup (2 ^ k) (2 ^ 149) (2 ^ 127) (2 ^ (127 + (k + k))) (2 ^ (k + k)) (pow-add 2 127 22) (pow-add 2 127 (k + k)) (pow-add 2 k k))
     where
       regroup : (v u t w x : ℕ) → u ≡ t * 4194304 → w ≡ t * x → x ≡ v * v → 4194305 * (v * v) * u ≡ 4194305 * w * 4194304
       regroup v u t w x a b c = rw (a, b, c) (omega arith)
 
   square-value : HasValue square false (1 * 2 ^ k * (1 * 2 ^ k)) (1 * 1)
-  square-value =
-      round-exact binary32 false (1 * 2 ^ k * (1 * 2 ^ k)) (1 * 1) 1 (149 + (k + k)) (omega arith) (omega arith) (high (149 + (k + k)) (omega arith))
+  square-value = round-exact binary32 false (1 * 2 ^ k * (1 * 2 ^ k)) (1 * 1) 1 (149 + (k + k)) (omega arith) (omega arith) (high (149 + (k + k)) (omega arith))
       (regroup (2 ^ k) (2 ^ 149) (2 ^ (149 + (k + k))) (2 ^ (k + k)) (pow-add 2 149 (k + k)) (pow-add 2 k k))
     where
       high : (i : ℕ) → i < 277 → 1 * 2 ^ i < 2 ^ 277
@@ -115,7 +100,8 @@ module _ (k : ℕ) (l : k ≤ 63) where
       let q = positive-of-value square (1 * 2 ^ k * (1 * 2 ^ k)) (1 * 1) square-value (omega (arith, some)) in
       let r = between step z square p q low t in
       clash (2 ^ k * 2 ^ k) some
-      (le-trans (values-of-le step square (4194305 * (2 ^ k * 2 ^ k)) 4194304 (1 * 2 ^ k * (1 * 2 ^ k)) (1 * 1) p q step-value square-value (le-trans-positive step z square p r q low t)) (le-of-eq (omega arith)))
+      (le-trans (values-of-le step square (4194305 * (2 ^ k * 2 ^ k)) 4194304 (1 * 2 ^ k * (1 * 2 ^ k))
+      (1 * 1) p q step-value square-value (le-trans-positive step z square p r q low t)) (le-of-eq (omega arith)))
     where
       grown : (v d a : ℕ) → 8388609 * (v * d) ≤ a * 8388608 → 4194305 * (v * v) * (d * d) ≤ a * a * 4194304
       grown v d a g =
@@ -142,9 +128,7 @@ digits : (s : Bool) (m : ℕ) (e : ℤ) → T (fits binary32 (fin s m e)) → m 
 unfolding fits
 digits s zero e t = omega arith
 digits s (suc m) e t =
-    let a : Bool = eqb (suc m % 2) 1 in
-    let b : Bool = ltb (suc m) (2 ^ 24) in
-    let c : Bool = leb (down e) (2 ^ 149) in
+    let a : Bool = eqb (suc m % 2) 1 in let b : Bool = ltb (suc m) (2 ^ 24) in let c : Bool = leb (down e) (2 ^ 149) in
     let d : Bool = ltb (suc m * up e) (2 ^ 128 * down e) in
     ltb→lt (suc m) (2 ^ 24) (and-r a b (and-l (a && b) c (and-l (a && b && c) d t)))
 
@@ -166,9 +150,7 @@ fits-by-square : (k : ℕ) → k ≤ 63 → (x : Float) → T (fits binary32 x) 
 unfolding Scan·fits
 fits-by-square k l nan t e = absurd (nan-square _ e)
 fits-by-square k l (inf s) t e = absurd (not-infinite _ _ _ (square-value k l) (ap (λ (z : Float). le z (squared k)) (sym (infinite-square s)) ∙ e))
-fits-by-square k l (fin s m d) t e =
-    dite (decLe (m * up d) (2 ^ k * down d))
-    (λ (g : m * up d ≤ 2 ^ k * down d). le-leb (m * up d) (2 ^ k * down d) g)
+fits-by-square k l (fin s m d) t e = dite (decLe (m * up d) (2 ^ k * down d)) (λ (g : m * up d ≤ 2 ^ k * down d). le-leb (m * up d) (2 ^ k * down d) g)
     (λ (g : m * up d ≤ 2 ^ k * down d → ⊥).
     absurd (too-large k l m d (digits s m d t) (lt-of-not-le g) (is-true _ (ap (λ (z : Float). le z (squared k)) (sym (finite-square s m d)) ∙ e))))
 

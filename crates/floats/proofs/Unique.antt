@@ -1,5 +1,5 @@
 -- Two answers that meet a promise are equal. Assumes nothing.
-use mathlib.Core.Path.{_≡_, sym, _∙_}
+use Rattle.sequences.proofs.Basics.{_≡_, sym, _∙_}
 use Rattle.turn.specs.declared.Turn.{Turn}
 use Rattle.floats.specs.declared.complex.Complex.{Complex}
 use Rattle.floats.specs.Complexes.{Adds, Subtracts, Multiplies, Conjugates, TurnsBy}

@@ -1,10 +1,6 @@
 -- Laws of a row pasted to the front of another. Assumes nothing.
-use Prim.Native.Nat.{ℕ}
-use native.Mathlib.Nat.{le-refl, zero-add}
-use mathlib.Core.Path.{_≡_, sym, ap, _∙_}
-use mathlib.Core.List.{List, _++_, append-nil}
+use Rattle.sequences.proofs.Basics.{_≡_, sym, ap, _∙_, ℕ, le-refl, zero-add, List, _++_, append-nil, length, drop, drop-of-length-le}
 use lib.Ieee.{Float}
-use lib.ListN.{length, drop, drop-of-length-le}
 use Rattle.floats.specs.Words.{pasted}
 
 pub front-pasted : (ys xs : List Float) (n : ℕ) → length xs ≡ n → pasted ys 0 xs ≡ xs ++ drop n ys

@@ -1,13 +1,7 @@
 -- A kernel with its radix ρ written out does what a stage of radix r does, where r is ρ.
 -- Assumes nothing.
-use mathlib.Core.Path.{_≡_, sym, ap, _∙_}
-use mathlib.Core.Bool.{Bool, true, false, true≢false}
-use mathlib.Core.Logic.{inl, inr}
-use mathlib.Core.List.{List}
-use Prim.Native.Nat.{ℕ, _+_, _-_, _*_, _≤_, _<_}
-use native.Mathlib.Nat.{mul-one, mul-le-mul-right, suc-mul}
-use native.Mathlib.Omega.{arith}
-use lib.ListN.{length, getD}
+use Rattle.sequences.proofs.Basics.{_≡_, sym, ap, _∙_, ℕ, _+_, _-_, _*_, _≤_, _<_, mul-one, mul-le-mul-right, suc-mul, arith, Bool, true, false, true≢false}
+use Rattle.sequences.proofs.Basics.{inl, inr, List, length, getD}
 use lib.Ieee.{Float}
 use Rattle.radices.specs.Lists.{isRadix}
 use Rattle.radices.proofs.Products.{Radix, radix-is}
@@ -99,7 +93,8 @@ pub record Kept (F : (ℕ → ℕ → Complex) → Type 0) (i j M r : ℕ) (src 
   pub low : (lent : ℕ → ℕ → Complex) → F lent → r < 7 → Held i j r (outputOf false M r src lent) ra ia
   pub high : (lent : ℕ → ℕ → Complex) → F lent → 7 ≤ r → Held i j r (outputOf false M r src lent) rb ib
 
-pub kept-none : {F : (ℕ → ℕ → Complex) → Type 0} {i M r : ℕ} {src ra ia rb ib : List Float} → length ra ≡ 128 → length ia ≡ 128 → length rb ≡ 128 → length ib ≡ 128
+pub kept-none : {F : (ℕ → ℕ → Complex) → Type 0} {i M r : ℕ} {src ra ia rb ib : List Float} → length ra ≡ 128 → length ia ≡ 128 → length rb ≡ 128
+    → length ib ≡ 128
     → Kept F i 0 M r src ra ia rb ib
 kept-none lra lia lrb lib =
     record {

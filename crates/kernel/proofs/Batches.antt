@@ -1,18 +1,11 @@
 -- How many cells are stored at once, the place that the next go to, and the iterations in lanes stored so. Assumes nothing.
-use mathlib.Core.Path.{_≡_, refl, sym, ap, _∙_}
-use Prim.Native.Nat.{ℕ, _+_, _-_, _*_, _/_, _%_, _≤_, _<_}
-use native.Mathlib.Nat.{add-assoc, add-zero, div-add-mod', mod-lt, mul-le-mul-right}
-use native.Mathlib.Omega.{arith}
-use native.Mathlib.Decide.{ℕ-discrete, decLe}
-use mathlib.Core.Bool.{false}
-use mathlib.Core.List.{List}
+use Rattle.sequences.proofs.Basics.{_≡_, refl, sym, ap, _∙_, ℕ, _+_, _-_, _*_, _/_, _%_, _≤_, _<_, add-assoc, add-zero, div-add-mod', mod-lt, mul-le-mul-right}
+use Rattle.sequences.proofs.Basics.{arith, ℕ-discrete, decLe, false, List, length, digits-div, digits-mod}
 use lib.Ieee.{Float}
-use lib.ListN.{length}
 use Rattle.schedule.specs.Stage.{index}
 use Rattle.floats.specs.Complexes.{cell}
 use Rattle.floats.specs.declared.complex.Complex.{Complex}
 use Rattle.kernel.specs.Floats.{lentAt}
-use lib.Arith.{digits-div, digits-mod}
 use Rattle.kernel.specs.Parts.{outputOf, Done, lane, Held, InBlock, Blocks, Stored, Batch, Even, Evenly, Placed}
 use Rattle.kernel.proofs.Places.{block-room, held-from}
 
@@ -69,11 +62,7 @@ pub placed-next : (e i s r block col n : ℕ) → 0 < s → Placed e i s r block
 placed-next e i s r block col n ps w l =
     let d : i + n ≡ (i / s + 1) * s + 0 = omega (arith, div-add-mod' i s, w .column) in
     let q : (i + n) / s ≡ i / s + 1 = ap (λ (k : ℕ). k / s) d ∙ digits-div (i / s + 1) ps in
-    record {
-      starts = rw q (omega (arith, w .starts));
-      column = sym (ap (λ (k : ℕ). k % s) d ∙ digits-mod (i / s + 1) ps);
-      even = even-none e col (w .even);
-    }
+    record { starts = rw q (omega (arith, w .starts)); column = sym (ap (λ (k : ℕ). k % s) d ∙ digits-mod (i / s + 1) ps); even = even-none e col (w .even) }
 
 pub placed-on : (e i j s r block col n : ℕ) {block′ col′ : ℕ} → 0 < s → Even e n → Placed e (i + j) s r block col → col + n ≤ s
     → (col + n < s → (block′ ≡ block) × (col′ ≡ col + n)) × (col + n ≡ s → (block′ ≡ block + s * r) × (col′ ≡ 0)) → Placed e (i + (j + n)) s r block′ col′
@@ -155,7 +144,8 @@ module _ {e i M len s r block col j : ℕ} {re im ys₀ ys : List Float} (st : S
       storing-lanes = omega (arith, b .3, st .lanes)
 
       pub storing-next : {block′ col′ : ℕ} {ys′ : List Float}
-          → ((v : ℕ → ℕ → Complex) → ((t p : ℕ) → t < n → p < r → lane re im (16 * p + j + t) ≡ v (i + j + t) p) → Done s r v ys (i + j) → Done s r v ys′ (i + j + n))
+          → ((v : ℕ → ℕ → Complex) → ((t p : ℕ) → t < n → p < r → lane re im (16 * p + j + t) ≡ v (i + j + t) p) → Done s r v ys (i + j)
+          → Done s r v ys′ (i + j + n))
           → length ys′ ≡ length ys → (col + n < s → (block′ ≡ block) × (col′ ≡ col + n)) × (col + n ≡ s → (block′ ≡ block + s * r) × (col′ ≡ 0))
           → Storing e i len s r re im ys₀ ys′ block′ col′ (j + n)
       storing-next rows size moved =
@@ -180,13 +170,8 @@ even-batch e i M s r nd {n} v b w less more = pick (decLe 16 (M - i))
 -- the first iteration goes to column 0
 pub placed-first : (e s r n : ℕ) → Even e n → 0 < s → Placed e 0 s r 0 0
 placed-first e s r n v ps =
-    let z : 0 ≡ 0 * s + 0 = omega arith in
-    let d : 0 / s ≡ 0 = ap (λ (k : ℕ). k / s) z ∙ digits-div 0 ps in
-    record {
-      starts = rw d (omega arith);
-      column = sym (ap (λ (k : ℕ). k % s) z ∙ digits-mod 0 ps);
-      even = even-none e n v;
-    }
+    let z : 0 ≡ 0 * s + 0 = omega arith in let d : 0 / s ≡ 0 = ap (λ (k : ℕ). k / s) z ∙ digits-div 0 ps in
+    record { starts = rw d (omega arith); column = sym (ap (λ (k : ℕ). k % s) z ∙ digits-mod 0 ps); even = even-none e n v }
 
 -- the iterations in whole lanes of 4
 pub whole-fours : (W M : ℕ) {e : ℕ} → (W ≡ 4 → e ≡ M / 4 * 4) → ((W ≡ 4 → ⊥) → e ≡ 0) → (e ≤ M / 4 * 4) × (e % 4 ≡ 0)

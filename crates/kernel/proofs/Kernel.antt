@@ -1,14 +1,6 @@
 -- What an iteration reads, and the outputs of its kernel. Assumes nothing.
-use mathlib.Core.Path.{_≡_, refl, ap, ap₂, _∙_}
-use mathlib.Core.Bool.{Bool, true, false}
-use mathlib.Core.List.{List, [], _∷_}
-use Prim.Native.Nat.{ℕ, zero, suc, _+_, _-_, _*_, _/_, _%_, _≤_, _<_}
-use native.Mathlib.Nat.{zero-add}
-use native.Mathlib.Omega.{arith}
-use lib.Dec.{eqb}
-use borrow.Author.Tests.{ne-eqb}
-use lib.ListN.{getD}
-use lib.Arith.{digits-lt}
+use Rattle.sequences.proofs.Basics.{_≡_, refl, ap, ap₂, _∙_, ℕ, zero, suc, _+_, _-_, _*_, _/_, _%_, _≤_, _<_, zero-add, arith, Bool, true, false, List, [], _∷_}
+use Rattle.sequences.proofs.Basics.{eqb, getD, digits-lt, ne-eqb}
 use lib.Ieee.{Float}
 use Rattle.schedule.specs.Stage.{tabulate, kernelTurn, twiddledIn, read, total, plain, output}
 use Rattle.schedule.proofs.Cells.{getD-tabulate, read-lt}
@@ -37,8 +29,7 @@ eight-listed f a b c d e g h k e0 e1 e2 e3 e4 e5 e6 e7 = λ i. e0 i ∷ e1 i ∷
 pub total-next : (r : ℕ) (x : ℕ → Complex) (p q : ℕ) (acc z sum : Complex) (t : Turn) → 0 < q → acc ≡ total untwiddled r x p (q - 1)
     → t ≡ turnOf (part (p * q % r) r) → z ≡ turnedBy t (x q) → sum ≡ plus acc z → sum ≡ total untwiddled r x p q
 unfolding floats kernelTurn
-total-next r x p q acc z sum t l ea et ez es =
-    es ∙ ap (plus acc) (ez ∙ ap (λ (u : Turn). turnedBy u (x q)) et) ∙ Sums.total-next untwiddled r x p q acc l ea
+total-next r x p q acc z sum t l ea et ez es = es ∙ ap (plus acc) (ez ∙ ap (λ (u : Turn). turnedBy u (x q)) et) ∙ Sums.total-next untwiddled r x p q acc l ea
 
 -- ---- reading
 

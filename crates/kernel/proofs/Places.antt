@@ -1,13 +1,7 @@
 -- The outputs of a stage reach their cells: in the first stage one iteration after the other, later a row of a block at a time.
 -- Assumes nothing.
-use mathlib.Core.Path.{_≡_, refl, sym, ap, _∙_}
-use mathlib.Core.List.{List}
-use Prim.Native.Nat.{ℕ, suc, _+_, _-_, _*_, _/_, _%_, _≤_, _<_}
-use native.Mathlib.Nat.{add-assoc, div-one, mod-one, div-lt-iff-lt-mul, mul-le-mul-right, suc-mul, mul-comm}
-use native.Mathlib.Omega.{arith}
-use native.Mathlib.Decide.{ℕ-discrete, decLe}
-use lib.Dec.{eqb}
-use lib.ListN.{length}
+use Rattle.sequences.proofs.Basics.{_≡_, refl, sym, ap, _∙_, ℕ, suc, _+_, _-_, _*_, _/_, _%_, _≤_, _<_, add-assoc, div-one, mod-one, div-lt-iff-lt-mul}
+use Rattle.sequences.proofs.Basics.{mul-le-mul-right, suc-mul, mul-comm, arith, ℕ-discrete, decLe, List, eqb, length}
 use lib.Ieee.{Float}
 use Rattle.schedule.specs.Stage.{index, plain, stageBy}
 use Rattle.schedule.proofs.Cells.{index-lt}
@@ -25,8 +19,7 @@ index-one r i p = rw (div-one i, mod-one i) (omega arith)
 
 -- the first stage: iteration i fills r cells from i * r on
 pub first-step : (r i : ℕ) (v : ℕ → ℕ → Complex) (ys ys′ : List Float) → Wrote (v i) (i * r) r ys ys′ → Done 1 r v ys i → Done 1 r v ys′ (i + 1)
-first-step r i v ys ys′ w =
-    done-iteration 1 r v (omega arith) i (λ i′ p l f. omega (arith, f)) (wrote-as (λ p l. (sym (index-one r i p), refl)) (w .cells))
+first-step r i v ys ys′ w = done-iteration 1 r v (omega arith) i (λ i′ p l f. omega (arith, f)) (wrote-as (λ p l. (sym (index-one r i p), refl)) (w .cells))
 
 -- row p of a block has room
 pub row-room : (i n s r nd p : ℕ) → InBlock i n s r nd → p < r → 2 * (i / s * (s * r) + i % s + p * s + n) ≤ nd
@@ -48,7 +41,8 @@ pub held-from : (i len r : ℕ) (v : ℕ → ℕ → Complex) (re im : List Floa
 held-from i len r v re im j n l held t p lt lp = rw (add-assoc (16 * p) j t, add-assoc i j t) (held (j + t) p (omega arith) lp)
 
 -- one more lane
-pub held-step : (i j r : ℕ) (v : ℕ → ℕ → Complex) (re im re′ im′ : List Float) → j < 16 → Saved (v (i + j)) j r re im re′ im′ → Held i j r v re im → Held i (j + 1) r v re′ im′
+pub held-step : (i j r : ℕ) (v : ℕ → ℕ → Complex) (re im re′ im′ : List Float) → j < 16 → Saved (v (i + j)) j r re im re′ im′ → Held i j r v re im
+    → Held i (j + 1) r v re′ im′
 held-step i j r v re im re′ im′ lj w before j′ p lj′ lp = pick (ℕ-discrete j′ j)
   where
     pick : Dec (j′ ≡ j) → lane re′ im′ (16 * p + j′) ≡ v (i + j′) p
@@ -78,10 +72,7 @@ picked-size r n a b p is la lb = pick (decLe 7 r)
 pub staged : (h n s r j : ℕ) → h ≡ n * (s * r) → 0 < s → 0 < r → (lent : ℕ → ℕ → Complex) (src dst : List Float) → length src ≡ 2 * h → length dst ≡ 2 * h
     → Done s r (outputOf (eqb j 0) (h / r) r src lent) dst (h / r) → dst ≡ flat (stageBy plain (lentBy lent) j h s r (paired src))
 unfolding floats
-staged h n s r j parts ps pr lent src dst ls ld done =
-    sym (flat-paired h dst ld)
-    ∙ ap flat
+staged h n s r j parts ps pr lent src dst ls ld done = sym (flat-paired h dst ld) ∙ ap flat
     (done-stage plain (lentBy lent) j h n s r parts ps pr (paired src) (paired dst) (length-paired h dst ld) (λ i p li lp.
-    get-paired dst (index s r i p) (omega (arith, index-lt s r i p ps lp h n parts li))
-    ∙ done i p li lp
+    get-paired dst (index s r i p) (omega (arith, index-lt s r i p ps lp h n parts li)) ∙ done i p li lp
     ∙ output-same lent j h s r src _ (λ k lk. sym (get-paired src k (omega arith))) i li p pr))

@@ -1,19 +1,9 @@
 -- Where the twiddles of a stage stand at any width, and that sixteen iterations of them are fetched.
 -- Assumes nothing.
-use mathlib.Core.Path.{_≡_, refl, sym, ap, _∙_}
-use mathlib.Core.Bool.{Bool, true, false, true≢false}
-use mathlib.Core.List.{List}
-use mathlib.Core.Logic.{_⊎_, ⊎-elim}
-use Prim.Native.Nat.{ℕ, _+_, _-_, _*_, _/_, _%_, _≤_, _<_}
-use native.Mathlib.Nat.{div-one, mod-one, mul-le-mul, mul-le-mul-right}
-use native.Mathlib.Omega.{arith}
-use native.Mathlib.Decide.{decLe, ℕ-discrete}
-use lib.Arith.{digits-lt}
-use lib.Dec.{eqb}
-use lib.ListN.{length, take, drop, length-drop}
-use lib.Seq.{take-all}
+use Rattle.sequences.proofs.Basics.{_≡_, refl, sym, ap, _∙_, ℕ, _+_, _-_, _*_, _/_, _%_, _≤_, _<_, div-one, mod-one, mul-le-mul, mul-le-mul-right, arith, decLe}
+use Rattle.sequences.proofs.Basics.{ℕ-discrete, Bool, true, false, true≢false, _⊎_, ⊎-elim, List, eqb, length, take, drop, length-drop, take-all, digits-lt}
+use Rattle.sequences.proofs.Basics.{eqb-false}
 use lib.Ieee.{Float}
-use borrow.Author.Tests.{eqb-false}
 use Rattle.twiddle.specs.Calls.{isWidth}
 use Rattle.twiddle.specs.Places.{place}
 use Rattle.twiddle.proofs.Places.{lane-place, lone-place, stands}
@@ -46,8 +36,7 @@ place-lt M r W i q width li first last = stands M r W width i q first last li .i
 -- at width 2 those of one iteration are evenly spaced: in whole lanes, and after them
 pub place-in : (M r W i u : ℕ) → W ≡ 2 → i - i % 2 + W ≤ M → place M r W i (u + 1) ≡ (i - i % 2) * (r - 1) + i % 2 + u * W
 place-in M r W i u two l =
-    let e : u + 1 - 1 ≡ u = omega arith in
-    let b : i - i % 2 ≡ i / 2 * 2 = omega arith in
+    let e : u + 1 - 1 ≡ u = omega arith in let b : i - i % 2 ≡ i / 2 * 2 = omega arith in
     rw (two, b) (lane-place M r 2 i (u + 1) (omega (arith, two)) ∙ rw e (omega arith))
 
 pub place-past : (M r W i u : ℕ) → W ≡ 2 → M < i - i % 2 + W → place M r W i (u + 1) ≡ i * (r - 1) + u * 1
@@ -56,15 +45,13 @@ place-past M r W i u two l = rw two (lone-place M r 2 i (u + 1) (omega (arith, t
 -- the number of a place is small
 pub small-past : (M r i : ℕ) → M ≤ 4096 → r ≤ 8 → i < M → i * (r - 1) ≤ 4096 * 7
 small-past M r i lM lr li =
-    let a : i ≤ 4096 = omega arith in
-    let b : r - 1 ≤ 7 = omega arith in
+    let a : i ≤ 4096 = omega arith in let b : r - 1 ≤ 7 = omega arith in
     mul-le-mul a b
 
 -- lane j has room among the fetched
 pub small-lane : (j r : ℕ) → j < 16 → r ≤ 8 → j * (r - 1) ≤ 15 * 7
 small-lane j r lj lr =
-    let a : j ≤ 15 = omega arith in
-    let b : r - 1 ≤ 7 = omega arith in
+    let a : j ≤ 15 = omega arith in let b : r - 1 ≤ 7 = omega arith in
     mul-le-mul a b
 
 pub small-lanes : (n r : ℕ) → n ≤ 16 → r ≤ 8 → n * (r - 1) ≤ 16 * 7
@@ -101,8 +88,7 @@ here-room i n M r tw l room = omega (arith, mul-le-mul-right (r - 1) l, length-d
 beside : (M r W i q : ℕ) → (W ≡ 1) ⊎ (W ≡ 4) → (W ≡ 4 → M / 4 * 4 ≤ i) → place M r W i q ≡ i * (r - 1) + (q - 1)
 beside M r W i q which past = ⊎-elim (λ one. rw one (place-one M r i q)) (λ four. rw four (lone-place M r 4 i q (past four))) which
 
-fetched-here : (i n M r W : ℕ) (tw : List Float) → (W ≡ 1) ⊎ (W ≡ 4) → (W ≡ 4 → M / 4 * 4 ≤ i)
-    → Fetched i n r (lentAt M r W tw) (drop (2 * (i * (r - 1))) tw)
+fetched-here : (i n M r W : ℕ) (tw : List Float) → (W ≡ 1) ⊎ (W ≡ 4) → (W ≡ 4 → M / 4 * 4 ≤ i) → Fetched i n r (lentAt M r W tw) (drop (2 * (i * (r - 1))) tw)
 fetched-here i n M r W tw which past j q lj l lq =
     let e : i * (r - 1) + (j * (r - 1) + (q - 1)) ≡ (i + j) * (r - 1) + (q - 1) = omega arith in
     cell-drop tw (i * (r - 1)) (j * (r - 1) + (q - 1)) ∙ ap (cell tw) (e ∙ sym (beside M r W (i + j) q which (λ four. omega (arith, past four))))
@@ -114,8 +100,7 @@ fetched4-here i n M r tw whole few inside = rw (rest (2 * (i * (r - 1))) tw) all
   where
     all : Fetched4 i n r (lentAt M r 4 tw) (drop (2 * (i * (r - 1))) tw)
     all j q lj l lq =
-        let d : (i + j) / 4 ≡ i / 4 = omega arith in
-        let m : (i + j) % 4 ≡ j = omega arith in
+        let d : (i + j) / 4 ≡ i / 4 = omega arith in let m : (i + j) % 4 ≡ j = omega arith in
         let b : i ≡ i / 4 * 4 = omega arith in
         let c : i * (r - 1) ≡ i / 4 * (4 * (r - 1)) = ap (λ (k : ℕ). k * (r - 1)) b ∙ omega arith in
         let p : place M r 4 (i + j) q ≡ i / 4 * (4 * (r - 1)) + ((q - 1) * 4 + j) = lane-place M r 4 (i + j) q (omega arith) ∙ rw (d, m) refl in

@@ -1,14 +1,7 @@
 -- Laws of the work of a stage: what an accepted plan gives its parts, and that they make the stage. Assumes nothing.
-use mathlib.Core.Path.{_≡_, refl, sym, ap, _∙_}
-use mathlib.Core.Bool.{true, false}
-use mathlib.Core.List.{List}
-use Prim.Native.Nat.{ℕ, _-_, _*_, _/_, _≤_, _<_}
-use native.Mathlib.Nat.{le-of-lt, div-mul-le-self, div-le-self}
-use native.Mathlib.Omega.{arith}
-use lib.Dec.{eqb}
-use lib.ListN.{length, getD}
+use Rattle.sequences.proofs.Basics.{_≡_, refl, sym, ap, _∙_, ℕ, _-_, _*_, _/_, _≤_, _<_, le-of-lt, div-mul-le-self, div-le-self, arith, true, false, List, eqb}
+use Rattle.sequences.proofs.Basics.{length, getD, eq-eqb, ne-eqb}
 use lib.Ieee.{Float}
-use borrow.Author.Tests.{eq-eqb, ne-eqb}
 use Rattle.counts.specs.Counts.{radix, stride}
 use Rattle.plan.specs.declared.Record.{Record}
 use Rattle.plan.proofs.Bounds.{plan-half, plan-radix, plan-radix-bounds, plan-later}
@@ -58,20 +51,14 @@ module _ (p : Record) (j W ns nt nd : ℕ) (k : Workable p j W ns nt nd) where
 
   pub work-blocks : Blocks (p .half / r) s r nd
   work-blocks =
-      record {
-        stride = stride-some;
-        some = omega (arith, bounds);
-        few = bounds .1;
-        whole = found-whole p (k .planned) j (k .known);
-        room = work-room;
-      }
+      record { stride = stride-some; some = omega (arith, bounds); few = bounds .1; whole = found-whole p (k .planned) j (k .known); room = work-room }
 
   module _ (src tw dst : List Float) (ls : length src ≡ ns) (ld : length dst ≡ nd) where
     made : Done s r (outputOf (eqb j 0) (p .half / r) r src (lentAt (p .half / r) r W tw)) dst (p .half / r) → dst ≡ stageOf p j W tw src
     unfolding stageOf stage
-    made done =
-        rw (use-stride p (k .planned) j (le-of-lt (k .known)), use-radix p (k .planned) j (k .known))
-        (staged (p .half) _ s r j (found-parts p (k .planned) j (k .known)) stride-some (omega (arith, bounds)) (lentAt (p .half / r) r W tw) src dst (ls ∙ k .source) (ld ∙ k .target) done)
+    made done = rw (use-stride p (k .planned) j (le-of-lt (k .known)), use-radix p (k .planned) j (k .known))
+        (staged (p .half) _ s r j (found-parts p (k .planned) j (k .known)) stride-some (omega (arith, bounds))
+        (lentAt (p .half / r) r W tw) src dst (ls ∙ k .source) (ld ∙ k .target) done)
 
     pub first-made : j ≡ 0 → ((lent : ℕ → ℕ → Complex) → Done 1 r (outputOf true (p .half / r) r src lent) dst (p .half / r)) → dst ≡ stageOf p j W tw src
     first-made e done =

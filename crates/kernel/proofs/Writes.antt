@@ -1,11 +1,6 @@
 -- One more cell written, in a flat list and in a lane. Assumes nothing.
-use mathlib.Core.Path.{_≡_, refl, ap₂, _∙_}
-use mathlib.Core.List.{List}
-use Prim.Native.Nat.{ℕ, _+_, _*_, _%_, _≤_, _<_}
-use native.Mathlib.Nat.{not-suc-le-zero}
-use native.Mathlib.Omega.{arith}
-use lib.ListN.{length, set, length-set}
-use lib.Seq.{getD-set-same, getD-set-other}
+use Rattle.sequences.proofs.Basics.{_≡_, refl, ap₂, _∙_, ℕ, _+_, _*_, _%_, _≤_, _<_, not-suc-le-zero, arith, List, length, set, length-set, getD-set-same}
+use Rattle.sequences.proofs.Basics.{getD-set-other}
 use lib.Ieee.{Float, nan}
 use Rattle.schedule.specs.Parts.{Every}
 use Rattle.schedule.proofs.Fill as Fill
@@ -20,12 +15,10 @@ module _ (g : ℕ → Complex) (at : ℕ) (ys : List Float) where
 
   pub wrote-step : (n : ℕ) (ys′ ys″ : List Float) (z : Complex) → 2 * (at + n) + 1 < length ys → Wrote g at n ys ys′ → z ≡ g n → ys″ ≡ putCell ys′ (at + n) z
       → Wrote g at (n + 1) ys ys″
-  wrote-step n ys′ ys″ z l w e f =
-      rw (f, e)
+  wrote-step n ys′ ys″ z l w e f = rw (f, e)
       (record {
         size = length-put ys′ (at + n) (g n) ∙ w .size;
-        cells =
-            Fill.wrote-next n (omega arith) (λ t lt. omega arith) (λ t lt ne. (omega (arith, ne), λ x. ne (omega arith)))
+        cells = Fill.wrote-next n (omega arith) (λ t lt. omega arith) (λ t lt ne. (omega (arith, ne), λ x. ne (omega arith)))
             (get-put ys′ (at + n) (g n) (rw (w .size) l)) (get-other ys′ (at + n) (g n)) (w .cells);
       })
 
@@ -50,8 +43,7 @@ module _ (g : ℕ → Complex) (b j : ℕ) (re im : List Float) where
       record {
         size-re = length-set re′ _ _ ∙ w .size-re;
         size-im = length-set im′ _ _ ∙ w .size-im;
-        cells =
-            Fill.every-next (λ t u x. omega arith) b n even (ap₂ cx (getD-set-same re′ at (z .re) nan lr) (getD-set-same im′ at (z .im) nan li) ∙ e)
+        cells = Fill.every-next (λ t u x. omega arith) b n even (ap₂ cx (getD-set-same re′ at (z .re) nan lr) (getD-set-same im′ at (z .im) nan li) ∙ e)
             (λ k ne. ap₂ cx (getD-set-other re′ at k (z .re) nan ne) (getD-set-other im′ at k (z .im) nan ne)) (w .cells);
       }
 
@@ -61,13 +53,10 @@ module _ (g : ℕ → Complex) (b j : ℕ) (re im : List Float) where
 
 module _ (g : ℕ → Complex) (j : ℕ) (re im : List Float) where
   -- the even ones and the odd ones are all
-  pub saved-both : (r : ℕ) {re′ im′ re″ im″ : List Float} → Taken (Every 0 r) g j re im re′ im′ → Taken (Every 1 r) g j re′ im′ re″ im″ → Saved g j r re im re″ im″
+  pub saved-both : (r : ℕ) {re′ im′ re″ im″ : List Float} → Taken (Every 0 r) g j re im re′ im′ → Taken (Every 1 r) g j re′ im′ re″ im″
+      → Saved g j r re im re″ im″
   saved-both r w v =
-      record {
-        size-re = v .size-re ∙ w .size-re;
-        size-im = v .size-im ∙ w .size-im;
-        cells = Fill.every-both (λ t u x. omega arith) r (w .cells) (v .cells);
-      }
+      record { size-re = v .size-re ∙ w .size-re; size-im = v .size-im ∙ w .size-im; cells = Fill.every-both (λ t u x. omega arith) r (w .cells) (v .cells) }
 
   pub saved-as : (h : ℕ → Complex) {n : ℕ} {re′ im′ : List Float} → ((p : ℕ) → p < n → g p ≡ h p) → Saved g j n re im re′ im′ → Saved h j n re im re′ im′
   saved-as h e w = record { size-re = w .size-re; size-im = w .size-im; cells = Fill.wrote-as (λ p l. (refl, e p l)) (w .cells) }

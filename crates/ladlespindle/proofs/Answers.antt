@@ -1,9 +1,5 @@
 -- Laws of the answers: counts of a list's plan by the verdict on the list, and acceptance as a number. Assumes nothing.
-use Prim.Native.Nat.{ℕ}
-use native.Mathlib.Omega.{arith}
-use mathlib.Core.Path.{_≡_, refl, sym, ap, _∙_}
-use mathlib.Core.Bool.{Bool, true, false, false≢true}
-use mathlib.Core.List.{List}
+use Rattle.sequences.proofs.Basics.{_≡_, refl, sym, ap, _∙_, ℕ, arith, Bool, true, false, false≢true, List}
 use Rattle.refusal.specs.Refusal.{numberIn, placeIn}
 use Rattle.refusal.specs.declared.Verdict.{Verdict}
 use Rattle.refusal.specs.declared.Verdict.the-variants.{Accepted, Refused}
@@ -47,18 +43,14 @@ module _ (xs : List ℕ) where
   module _ (a : Planned) (e : a ≡ planned xs) where
     pub count-for : (f : Record → ℕ) (r : Counted) → r ≡ counted (recordVerdict (a .plan)) (f (a .plan)) → r .count ≡ countFor f xs
     unfolding planned
-    count-for f r q =
-        ap (λ (x : Counted). x .count) q
-        ∙ ap (λ (b : Planned). counted (recordVerdict (b .plan)) (f (b .plan)) .count) e
+    count-for f r q = ap (λ (x : Counted). x .count) q ∙ ap (λ (b : Planned). counted (recordVerdict (b .plan)) (f (b .plan)) .count) e
         ∙ count-by f (planVerdict xs) refl
 
     pub buffer-for : (f : Record → Buffer) (r : Located) → r ≡ located (recordVerdict (a .plan)) (f (a .plan))
         → bufferNumber (r .buffer) ≡ countFor (λ (p : Record). bufferNumber (f p)) xs
     unfolding planned
-    buffer-for f r q =
-        ap (λ (x : Located). bufferNumber (x .buffer)) q
-        ∙ ap (λ (b : Planned). bufferNumber (located (recordVerdict (b .plan)) (f (b .plan)) .buffer)) e
-        ∙ buffer-by f (planVerdict xs) refl
+    buffer-for f r q = ap (λ (x : Located). bufferNumber (x .buffer)) q
+        ∙ ap (λ (b : Planned). bufferNumber (located (recordVerdict (b .plan)) (f (b .plan)) .buffer)) e ∙ buffer-by f (planVerdict xs) refl
 
 -- 1 for a record that is accepted, 0 for one that is not
 module _ (p : Record) (b : Bool) (a : Accepts p b) where
@@ -67,10 +59,7 @@ module _ (p : Record) (b : Bool) (a : Accepts p b) where
 
   pub accepts-none : b ≡ false → GivesAcceptance p 0
   accepts-none e =
-      record {
-        one = (λ (h : _≡_ {A = ℕ} 0 1). absurd (omega arith), λ (h : Plannable p). absurd (false≢true (sym e ∙ a .answer .1 h)));
-        bit = omega arith;
-      }
+      record { one = (λ (h : _≡_ {A = ℕ} 0 1). absurd (omega arith), λ (h : Plannable p). absurd (false≢true (sym e ∙ a .answer .1 h))); bit = omega arith }
 
 -- scaling's answer put together from its fields and the verdict's two numbers
 pub crossed-by : (ins outs : List ℕ) (s : Scaled) → Scales ins outs s → (number place : ℕ) → number ≡ numberIn (s .verdict) → place ≡ placeIn (s .verdict)

@@ -1,6 +1,5 @@
 -- Promises of calls, with the verdict as numbers. Assumes nothing.
-use Prim.Native.Nat.{ℕ}
-use mathlib.Core.Path.{_≡_, sym, ap, _∙_}
+use Rattle.sequences.proofs.Basics.{_≡_, sym, ap, _∙_, ℕ}
 use lib.Ieee.{Float}
 use Rattle.refusal.specs.Refusal.{numberOf, placeOf, numberIn, placeIn, left, Settles}
 use Rattle.refusal.specs.declared.Refusal.{Refusal}

@@ -1,8 +1,5 @@
 -- Two answers that meet a promise are equal: one theorem for each exported function. Assumes nothing.
-use Prim.Native.Nat.{ℕ, zero, suc, _≤_}
-use native.Mathlib.Omega.{arith}
-use mathlib.Core.Path.{_≡_, refl, sym}
-use mathlib.Core.List.{List}
+use Rattle.sequences.proofs.Basics.{_≡_, refl, sym, ℕ, zero, suc, _≤_, arith, List}
 use lib.Ieee.{Float}
 use Rattle.refusal.specs.declared.Verdict.{Verdict}
 use Rattle.refusal.proofs.Unique.{agree}

@@ -1,16 +1,7 @@
 -- Laws of the half list. Assumes nothing.
-use Prim.Native.Nat.{ℕ, suc, _+_, _-_, _*_, _%_, _<_, _≤_}
-use native.Mathlib.Nat.{add-mul-mod-self-right}
-use native.Mathlib.Numerals.{add-one}
-use native.Mathlib.Omega.{arith}
-use mathlib.Core.Path.{_≡_, refl, sym, ap, _∙_}
-use mathlib.Core.Logic.{inl, inr}
-use mathlib.Core.Bool.{Bool, true, false, cond}
-use mathlib.Core.List.{List, [], _∷_, _++_}
-use lib.Dec.{eqb}
-use lib.ListN.{length, getD, take, drop, set, length-append, length-take, length-drop}
-use lib.Seq.{split-at, set-split}
-use borrow.Author.Tests.{ltb-true, ltb-false, eqb-true, eqb-false}
+use Rattle.sequences.proofs.Basics.{_≡_, refl, sym, ap, _∙_, ℕ, suc, _+_, _-_, _*_, _%_, _<_, _≤_, add-mul-mod-self-right, add-one, arith, Bool, true, false}
+use Rattle.sequences.proofs.Basics.{cond, inl, inr, List, [], _∷_, _++_, eqb, length, getD, take, drop, set, length-append, length-take, length-drop, split-at}
+use Rattle.sequences.proofs.Basics.{set-split, ltb-true, ltb-false, eqb-true, eqb-false}
 use Rattle.radices.specs.Lists.{isRadix, product, indexOf}
 use Rattle.sequences.specs.Lists.{firstThat}
 use Rattle.radices.proofs.Lists.{product-append}
@@ -88,8 +79,7 @@ odd-times k m h = ap (λ (n : ℕ). n % 2) (spread k m) ∙ add-mul-mod-self-rig
 odd-product : (xs : List ℕ) → Radical xs → Tells Stays xs → product xs % 2 ≡ 1
 unfolding Tells Radical product indexOf firstThat
 odd-product [] r h = refl
-odd-product (b ∷ bs) r h =
-    go (radix-is b (r .0)) (miss 2 (h .0)) (miss 8 (h .1 .0)) (miss 4 (h .1 .1))
+odd-product (b ∷ bs) r h = go (radix-is b (r .0)) (miss 2 (h .0)) (miss 8 (h .1 .0)) (miss 4 (h .1 .1))
     (odd-product bs (r .1) (miss 2 (h .0) .1, (miss 8 (h .1 .0) .1, miss 4 (h .1 .1) .1)))
   where
     miss : (v : ℕ) → suc (length bs) ≤ cond (eqb b v) 0 (suc (indexOf v bs)) → (b ≡ v → ⊥) × (length bs ≤ indexOf v bs)
@@ -120,12 +110,8 @@ halved-by xs (Goes at) t r e =
     let parts = split-at xs at 0 (t .0) in
     let rs = radical-parts (take at xs) (getD xs at 0 ∷ drop (suc at) xs) (rw parts at r) in
     record {
-      twice =
-          sym
-          (ap product parts
-          ∙ product-append (take at xs) (getD xs at 0 ∷ drop (suc at) xs)
-          ∙ ap (λ (n : ℕ). product (take at xs) * (n * product (drop (suc at) xs))) (t .1)
-          ∙ turn (product (take at xs)) (product (drop (suc at) xs))
+      twice = sym (ap product parts ∙ product-append (take at xs) (getD xs at 0 ∷ drop (suc at) xs)
+          ∙ ap (λ (n : ℕ). product (take at xs) * (n * product (drop (suc at) xs))) (t .1) ∙ turn (product (take at xs)) (product (drop (suc at) xs))
           ∙ ap (λ (n : ℕ). 2 * n) (sym (product-append (take at xs) (drop (suc at) xs))));
       radices = radical-append (take at xs) (drop (suc at) xs) (rs .0) (rs .1 .1);
       fewer = simp (length-append, length-take, length-drop) (omega arith);
@@ -138,12 +124,8 @@ halved-by xs (Becomes at v) t r e =
     let rs = radical-parts (take at xs) (getD xs at 0 ∷ drop (suc at) xs) (rw parts at r) in
     rw (set-split xs at v (t .0))
     (record {
-      twice =
-          sym
-          (ap product parts
-          ∙ product-append (take at xs) (getD xs at 0 ∷ drop (suc at) xs)
-          ∙ ap (λ (n : ℕ). product (take at xs) * (n * product (drop (suc at) xs))) (t .1 .0)
-          ∙ turn (product (take at xs)) v (product (drop (suc at) xs))
+      twice = sym (ap product parts ∙ product-append (take at xs) (getD xs at 0 ∷ drop (suc at) xs)
+          ∙ ap (λ (n : ℕ). product (take at xs) * (n * product (drop (suc at) xs))) (t .1 .0) ∙ turn (product (take at xs)) v (product (drop (suc at) xs))
           ∙ ap (λ (n : ℕ). 2 * n) (sym (product-append (take at xs) (v ∷ drop (suc at) xs))));
       radices = radical-append (take at xs) (v ∷ drop (suc at) xs) (rs .0) (t .1 .1, rs .1 .1);
       fewer = simp (length-append, length-take, length-drop) (omega arith);

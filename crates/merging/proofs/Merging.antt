@@ -1,15 +1,7 @@
 -- Laws of merging: which rule comes first, that merging ends, what it keeps and what it leaves. Assumes nothing.
-use Prim.Native.Nat.{ℕ, zero, suc, _+_, _*_, _/_, _%_, _<_, _≤_}
-use native.Mathlib.Omega.{arith}
-use native.Mathlib.Numerals.{add-one}
-use mathlib.Core.Path.{_≡_, refl, sym, ap, _∙_}
-use mathlib.Core.Logic.{_⊎_, inl, inr, ⊎-elim}
-use mathlib.Core.Bool.{Bool, true, false, cond, _&&_, true≢false}
-use mathlib.Core.List.{List, [], _∷_, _++_, map, append-assoc, append-nil}
-use lib.Dec.{leb}
-use lib.ListN.{length, take, set, replicate, length-append, length-replicate, length-set}
-use lib.Seq.{take-suc-set, length-take-le, paste}
-use borrow.Author.Tests.{leb-true, leb-false, le-leb, lt-leb}
+use Rattle.sequences.proofs.Basics.{_≡_, refl, sym, ap, _∙_, ℕ, zero, suc, _+_, _*_, _/_, _%_, _<_, _≤_, add-one, arith, Bool, true, false, cond, _&&_}
+use Rattle.sequences.proofs.Basics.{true≢false, _⊎_, inl, inr, ⊎-elim, List, [], _∷_, _++_, map, append-assoc, append-nil, leb, length, take, set, replicate}
+use Rattle.sequences.proofs.Basics.{length-append, length-replicate, length-set, take-suc-set, length-take-le, paste, leb-true, leb-false, le-leb, lt-leb}
 use Rattle.radices.proofs.Lists.{push-padded, filled-padded}
 use Rattle.radices.specs.Lists.{countOf, padded}
 use Rattle.merging.specs.Merging.{tally, total, applies, merge, firstRule, before, rulesUpTo, rules, mergedBy, merged, letter, letters, marked, mergeAll, sorted}
@@ -185,13 +177,9 @@ rules-some k t m = before-rule (firstRule t) _ m
 rules-same : (k j : ℕ) (t : Tally) → low t ≤ k → low t ≤ j → rulesUpTo k t ≡ rulesUpTo j t
 rules-same zero j t p q = let e = none-at t (omega arith) in rules-none zero t e ∙ sym (rules-none j t e)
 rules-same (suc k) zero t p q = let e = none-at t (omega arith) in rules-none (suc k) t e ∙ sym (rules-none zero t e)
-rules-same (suc k) (suc j) t p q =
-    ⊎-elim (λ e. rules-none (suc k) t e ∙ sym (rules-none (suc j) t e))
-    (λ m.
+rules-same (suc k) (suc j) t p q = ⊎-elim (λ e. rules-none (suc k) t e ∙ sym (rules-none (suc j) t e)) (λ m.
     let f = falls-at t m in
-    rules-some k t m
-    ∙ ap (λ (rs : List Rule). firstRule t ∷ rs) (rules-same k j (merge (firstRule t) t) (omega arith) (omega arith))
-    ∙ sym (rules-some j t m))
+    rules-some k t m ∙ ap (λ (rs : List Rule). firstRule t ∷ rs) (rules-same k j (merge (firstRule t) t) (omega arith) (omega arith)) ∙ sym (rules-some j t m))
     (merges? (firstRule t))
 
 pub rules-stop : (t : Tally) → firstRule t ≡ None → rules t ≡ []
@@ -202,8 +190,7 @@ pub rules-step : (t : Tally) → Merges (firstRule t) → rules t ≡ firstRule 
 unfolding rules
 rules-step t m =
     let f = falls-at t m in
-    rules-same (low t) (suc (low t)) t (omega arith) (omega arith)
-    ∙ rules-some (low t) t m
+    rules-same (low t) (suc (low t)) t (omega arith) (omega arith) ∙ rules-some (low t) t m
     ∙ ap (λ (rs : List Rule). firstRule t ∷ rs) (rules-same (low t) _ (merge (firstRule t) t) (omega arith) (omega arith))
 
 pub merged-stop : (t : Tally) → firstRule t ≡ None → merged t ≡ t
@@ -235,11 +222,8 @@ tells-none t e = rw e at (tells t)
 
 leaves-within : (k : ℕ) (t : Tally) → low t ≤ k → Leaves t (merged t)
 leaves-within zero t h = let e = none-at t (omega arith) in rw (merged-stop t e) (record { keeps = keeps-all t; one = omega arith })
-leaves-within (suc k) t h =
-    ⊎-elim (λ e. rw (merged-stop t e) (record { keeps = keeps-all t; one = tells-none t e }))
-    (λ m.
-    let f = falls-at t m in
-    let l = leaves-within k (merge (firstRule t) t) (omega arith) in
+leaves-within (suc k) t h = ⊎-elim (λ e. rw (merged-stop t e) (record { keeps = keeps-all t; one = tells-none t e })) (λ m.
+    let f = falls-at t m in let l = leaves-within k (merge (firstRule t) t) (omega arith) in
     rw (merged-step t m) (record { keeps = keeps-on (merge-keeps (firstRule t) t (tells t)) (l .keeps); one = l .one }))
     (merges? (firstRule t))
 
@@ -248,13 +232,9 @@ merged-leaves t = leaves-within (low t) t (omega arith)
 
 few-within : (k : ℕ) (t : Tally) → low t ≤ k → (length (rules t) ≡ 0) ⊎ (length (rules t) < low t)
 few-within zero t h = inl (ap length (rules-stop t (none-at t (omega arith))))
-few-within (suc k) t h =
-    ⊎-elim (λ e. inl (ap length (rules-stop t e)))
-    (λ m.
-    let f = falls-at t m in
-    let e = ap length (rules-step t m) in
-    inr (⊎-elim (λ z. omega arith) (λ z. omega arith) (few-within k (merge (firstRule t) t) (omega arith))))
-    (merges? (firstRule t))
+few-within (suc k) t h = ⊎-elim (λ e. inl (ap length (rules-stop t e))) (λ m.
+    let f = falls-at t m in let e = ap length (rules-step t m) in
+    inr (⊎-elim (λ z. omega arith) (λ z. omega arith) (few-within k (merge (firstRule t) t) (omega arith)))) (merges? (firstRule t))
 
 -- the number of merges is 0, or below the number of 2s and 4s
 pub merges-few : (t : Tally) → (length (rules t) ≡ 0) ⊎ (length (rules t) < low t)
@@ -300,22 +280,16 @@ so-far-none t h = record { same = refl; done = refl; held = refl; long = refl; r
 module _ (start : Tally) (array : List ℕ) (count : ℕ) (t : Tally) (s : SoFar start array count t) where
   so-far-step : Merges (firstRule t) → SoFar start (set array count (letter (firstRule t))) (count + 1) (merge (firstRule t) t)
   so-far-step m =
-      let v = letter (firstRule t) in
-      let f = falls-at t m in
-      let k = merge-keeps (firstRule t) t (tells t) in
+      let v = letter (firstRule t) in let f = falls-at t m in let k = merge-keeps (firstRule t) t (tells t) in
       let h : count < length array = omega (arith, s .long, s .room) in
       let taken : take (count + 1) (set array count v) ≡ take count array ++ (v ∷ []) =
       ap (λ (n : ℕ). take n (set array count v)) (add-one count) ∙ take-suc-set array count v h in
       record {
         same = sym (merged-step t m) ∙ s .same;
-        done =
-            s .done
-            ∙ ap (λ (ls : List ℕ). take count array ++ ls) (letters-step t m)
+        done = s .done ∙ ap (λ (ls : List ℕ). take count array ++ ls) (letters-step t m)
             ∙ sym (append-assoc (take count array) (v ∷ []) (letters (merge (firstRule t) t)))
             ∙ ap (λ (ls : List ℕ). ls ++ letters (merge (firstRule t) t)) (sym taken);
-        held =
-            ap (λ (ls : List ℕ). set ls count v) (s .held)
-            ∙ push-padded (take count array) count v (length-take-le count array (omega arith)) (omega arith)
+        held = ap (λ (ls : List ℕ). set ls count v) (s .held) ∙ push-padded (take count array) count v (length-take-le count array (omega arith)) (omega arith)
             ∙ ap padded (sym taken);
         long = length-set array count v ∙ s .long;
         room = omega arith;
@@ -348,20 +322,15 @@ module _ (start : Tally) (array : List ℕ) (count : ℕ) (t : Tally) (s : SoFar
 
 -- ---- six runs laid one behind the other
 
-pub sorted-filled : (t : Tally) (a b c d e f : List ℕ) → total t ≤ 13
-    → a ≡ paste (replicate 13 0) 0 (replicate (t .twos) 2) (t .twos)
-    → b ≡ paste a (t .twos) (replicate (t .threes) 3) (t .threes)
-    → c ≡ paste b (t .twos + t .threes) (replicate (t .fours) 4) (t .fours)
+pub sorted-filled : (t : Tally) (a b c d e f : List ℕ) → total t ≤ 13 → a ≡ paste (replicate 13 0) 0 (replicate (t .twos) 2) (t .twos)
+    → b ≡ paste a (t .twos) (replicate (t .threes) 3) (t .threes) → c ≡ paste b (t .twos + t .threes) (replicate (t .fours) 4) (t .fours)
     → d ≡ paste c (t .twos + t .threes + t .fours) (replicate (t .fives) 5) (t .fives)
     → e ≡ paste d (t .twos + t .threes + t .fours + t .fives) (replicate (t .sevens) 7) (t .sevens)
-    → f ≡ paste e (t .twos + t .threes + t .fours + t .fives + t .sevens) (replicate (t .eights) 8) (t .eights)
-    → f ≡ padded (sorted t)
+    → f ≡ paste e (t .twos + t .threes + t .fours + t .fives + t .sevens) (replicate (t .eights) 8) (t .eights) → f ≡ padded (sorted t)
 unfolding sorted padded
 sorted-filled t a b c d e f h p2 p3 p4 p5 p7 p8 =
-    let l2 : List ℕ = replicate (t .twos) 2 in
-    let l3 : List ℕ = l2 ++ replicate (t .threes) 3 in
-    let l4 : List ℕ = l3 ++ replicate (t .fours) 4 in
-    let l5 : List ℕ = l4 ++ replicate (t .fives) 5 in
+    let l2 : List ℕ = replicate (t .twos) 2 in let l3 : List ℕ = l2 ++ replicate (t .threes) 3 in
+    let l4 : List ℕ = l3 ++ replicate (t .fours) 4 in let l5 : List ℕ = l4 ++ replicate (t .fives) 5 in
     let l7 : List ℕ = l5 ++ replicate (t .sevens) 7 in
     let f2 = filled-padded [] (replicate 13 0) a 0 (t .twos) 2 refl (omega arith) refl p2 in
     let f3 = filled-padded l2 a b (t .twos) (t .threes) 3 (length-replicate (t .twos) 2) (omega arith) (f2 .0) p3 in

@@ -1,12 +1,7 @@
 -- Each entry of the house table is the rounding of the power series, by one test, computed over the whole table. Assumes nothing.
-use Prim.Native.Nat.{ℕ, zero, suc, _+_, _*_, _^_, _<_, _≤_}
-use native.Mathlib.Nat.{le-of-suc-le-suc, not-suc-le-zero, add-zero, zero-add, le-refl, le-trans, sub-le, sub-add-cancel, mul-le-mul, mul-le-mul-right, le-mul-of-pos-right, mul-pos, zero-lt-suc}
-use native.Mathlib.Omega.{arith}
-use mathlib.Core.Path.{_≡_, subst}
-use mathlib.Core.Bool.{Bool, true, _&&_}
-use mathlib.Core.List.{List, [], _∷_}
-use lib.Dec.{T, lit≤}
-use lib.ListN.{length, getD}
+use Rattle.sequences.proofs.Basics.{_≡_, subst, ℕ, zero, suc, _+_, _*_, _^_, _<_, _≤_, le-of-suc-le-suc, not-suc-le-zero, add-zero, zero-add, le-refl, le-trans}
+use Rattle.sequences.proofs.Basics.{sub-le, sub-add-cancel, mul-le-mul, mul-le-mul-right, le-mul-of-pos-right, mul-pos, zero-lt-suc, arith, Bool, true, _&&_}
+use Rattle.sequences.proofs.Basics.{List, [], _∷_, T, lit≤, length, getD}
 use lib.Ieee.Fits.{and-l, and-r}
 use Rattle.turn.specs.House.{cosines, sines}
 use Rattle.turn.proofs.Rule.{counts}
@@ -22,7 +17,8 @@ at-most-one p q k (suc n) = sub-le (q * q * (suc k * suc (suc k)) * under q (suc
 
 pub whole-difference : (p q k n : ℕ) → p ≤ q → over p q k (suc n) + p * p * over p q (suc (suc k)) n ≡ under q k (suc n)
 unfolding over under
-whole-difference p q k n h = sub-add-cancel (le-trans (mul-le-mul (mul-le-mul h h) (at-most-one p q (suc (suc k)) n)) (mul-le-mul-right (under q (suc (suc k)) n) (le-mul-of-pos-right (q * q) (mul-pos (zero-lt-suc k) (zero-lt-suc (suc k))))))
+whole-difference p q k n h = sub-add-cancel (le-trans (mul-le-mul (mul-le-mul h h) (at-most-one p q (suc (suc k)) n))
+    (mul-le-mul-right (under q (suc (suc k)) n) (le-mul-of-pos-right (q * q) (mul-pos (zero-lt-suc k) (zero-lt-suc (suc k))))))
 
 -- ---- the tests
 -- what is asked of entry b, h

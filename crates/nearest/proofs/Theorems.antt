@@ -4,11 +4,8 @@
 -- By the power series (`house-series`, `cosine-between`, `sine-between`): all sums from the 16th on, at b/840 of an arc that `eighth` shows to be an
 -- eighth of a circle, round to it.
 -- Assumes nothing.
-use Prim.Native.Nat.{ℕ, suc, _+_, _-_, _*_, _/_, _^_, _<_, _≤_}
-use native.Mathlib.Nat.{le-trans, mul-le-mul, mul-le-mul-left, mul-le-mul-right, div-eq-of-lt-le}
-use native.Mathlib.Omega.{arith}
-use mathlib.Core.Path.{_≡_, refl}
-use lib.Dec.{lit≤}
+use Rattle.sequences.proofs.Basics.{_≡_, refl, ℕ, suc, _+_, _-_, _*_, _/_, _^_, _<_, _≤_, le-trans, mul-le-mul, mul-le-mul-left, mul-le-mul-right}
+use Rattle.sequences.proofs.Basics.{div-eq-of-lt-le, arith, lit≤}
 use Rattle.turn.specs.Rule.{Within, Rule}
 use Rattle.turn.proofs.Rule.{house-rule}
 use Rattle.nearest.specs.Scale.{RuleAt, Nearest}
@@ -54,8 +51,7 @@ kept = (fineCosine, fineSine, fine-rule)
 near : (G K x y h e b : ℕ) → 2 ^ 36 * K ≤ G → b ≤ 840 → e ≡ 463 * b * (G + 2 ^ 36 * K) → Within e (2 ^ 36 * K * x) (G * y) → Rounds y h
     → Within (4095 * G) (8192 * (K * x)) (8192 * (G * h))
 near G K x y h e b g l k (p, q) (v, w) =
-    let m : e ≤ 777840 * G = close in
-    let n : G * y ≤ G * (2 ^ 36 * h + (2 ^ 35 - 2 ^ 24)) = mul-le-mul-left G v in
+    let m : e ≤ 777840 * G = close in let n : G * y ≤ G * (2 ^ 36 * h + (2 ^ 35 - 2 ^ 24)) = mul-le-mul-left G v in
     let o : G * (2 ^ 36 * h) ≤ G * (y + (2 ^ 35 - 2 ^ 24)) = mul-le-mul-left G w in
     (omega arith, omega arith)
   where

@@ -1,13 +1,7 @@
 -- The finer table keeps the rule at 2 ^ 96, and each of its entries is within 2 ^ 35 - 2 ^ 24 units of the house table's: by two tests, computed over
 -- the whole table. Assumes nothing.
-use Prim.Native.Nat.{ℕ, zero, suc, _+_, _-_, _*_, _^_, _<_, _≤_}
-use native.Mathlib.Nat.{eq-or-lt-of-le}
-use native.Mathlib.Omega.{arith}
-use mathlib.Core.Path.{_≡_, refl, subst, sym}
-use mathlib.Core.Logic.{inl, inr}
-use mathlib.Core.List.{List, [], _∷_}
-use lib.Dec.{T, lit≤}
-use lib.ListN.{length, getD}
+use Rattle.sequences.proofs.Basics.{_≡_, refl, subst, sym, ℕ, zero, suc, _+_, _-_, _*_, _^_, _<_, _≤_, eq-or-lt-of-le, arith, inl, inr, List, [], _∷_, T, lit≤}
+use Rattle.sequences.proofs.Basics.{length, getD}
 use Rattle.turn.specs.House.{cosines, sines}
 use Rattle.turn.specs.Rule.{Within}
 use Rattle.turn.proofs.Table.{Ordered, Neighbours, everywhere, everywhere-at}
@@ -28,10 +22,7 @@ within d x y ps = (x, y + d) ∷ (y, x + d) ∷ ps
 -- ---- the rule
 -- what is asked of an entry and the next, when entry 1 is (p, q)
 unfoldable asked : (p q : ℕ) → Neighbours
-asked p q c s c' s' =
-    (suc c', c) ∷ (suc s, s')
-    ∷ within (2 * 2 ^ 96) (c * c + s * s) (2 ^ 96 * 2 ^ 96)
-    (within (2 * 2 ^ 96) (c * p) (2 ^ 96 * c' + s * q)
+asked p q c s c' s' = (suc c', c) ∷ (suc s, s') ∷ within (2 * 2 ^ 96) (c * c + s * s) (2 ^ 96 * 2 ^ 96) (within (2 * 2 ^ 96) (c * p) (2 ^ 96 * c' + s * q)
     (within (2 * 2 ^ 96) (s * p + c * q) (2 ^ 96 * s')
     []))
 

@@ -1,11 +1,6 @@
 -- Laws of an accepted plan: its order, its sizes, and bounds of its radices. Assumes nothing.
-use Prim.Native.Nat.{ℕ, zero, suc, _-_, _<_, _≤_}
-use native.Mathlib.Omega.{arith}
-use mathlib.Core.Path.{_≡_, refl, sym, ap, _∙_}
-use mathlib.Core.Bool.{true}
-use mathlib.Core.List.{List, [], _∷_, _++_, append-nil}
-use lib.ListN.{length, getD, take, replicate}
-use lib.Seq.{getD-take, length-take-le}
+use Rattle.sequences.proofs.Basics.{_≡_, refl, sym, ap, _∙_, ℕ, zero, suc, _-_, _<_, _≤_, arith, true, List, [], _∷_, _++_, append-nil, length, getD, take}
+use Rattle.sequences.proofs.Basics.{replicate, getD-take, length-take-le}
 use Rattle.radices.specs.Lists.{isRadix}
 use Rattle.merging.specs.Merging.{tally, sorted}
 use Rattle.merging.specs.declared.inner.merging.Tally.{Tally}
@@ -35,12 +30,8 @@ twoless-after (suc k) v xs n t (suc j) = twoless-after k v xs n t j
 -- in ascending order a single 2 stands first
 two-first : (t : Tally) → t .twos ≤ 1 → (j : ℕ) → getD (sorted t) (suc j) 0 ≡ 2 → ⊥
 unfolding sorted
-two-first t one j =
-    go (t .twos) _ one
-    (twoless-after (t .threes) 3 _ (λ e. omega arith)
-    (twoless-after (t .fours) 4 _ (λ e. omega arith)
-    (twoless-after (t .fives) 5 _ (λ e. omega arith)
-    (twoless-after (t .sevens) 7 _ (λ e. omega arith)
+two-first t one j = go (t .twos) _ one (twoless-after (t .threes) 3 _ (λ e. omega arith) (twoless-after (t .fours) 4 _ (λ e. omega arith)
+    (twoless-after (t .fives) 5 _ (λ e. omega arith) (twoless-after (t .sevens) 7 _ (λ e. omega arith)
     (rw append-nil at (twoless-after (t .eights) 8 [] (λ e. omega arith) (λ i e. omega arith)))))))
   where
     go : (k : ℕ) (xs : List ℕ) → k ≤ 1 → Twoless xs → getD (replicate k 2 ++ xs) (suc j) 0 ≡ 2 → ⊥
@@ -70,8 +61,7 @@ module _ (p : Record) (e : isPlanned p ≡ true) where
 
   -- each radix in use
   pub plan-radix : (j : ℕ) → j < p .count → isRadix (getD (p .radices) j 0) ≡ true
-  plan-radix j h =
-      ap isRadix (sym (getD-take (p .count) (p .radices) j 0 h))
+  plan-radix j h = ap isRadix (sym (getD-take (p .count) (p .radices) j 0 h))
       ∙ radical-at (take (p .count) (p .radices)) j plan-radical (omega (arith, length-take-le (p .count) (p .radices) plan-long))
 
   pub plan-radix-bounds : (j : ℕ) → j < p .count → (2 ≤ getD (p .radices) j 0) × (getD (p .radices) j 0 ≤ 8)

@@ -1,9 +1,5 @@
 -- Laws of planning: the answer put together, and the verdict on a record. Assumes nothing.
-use Prim.Native.Nat.{ℕ, _/_, _≤_}
-use native.Mathlib.Omega.{arith}
-use mathlib.Core.Path.{_≡_, refl, ap, _∙_}
-use mathlib.Core.List.{List}
-use lib.ListN.{length, take}
+use Rattle.sequences.proofs.Basics.{_≡_, refl, ap, _∙_, ℕ, _/_, _≤_, arith, List, length, take}
 use Rattle.refusal.specs.declared.Refusal.{Refusal}
 use Rattle.refusal.specs.declared.Verdict.{Verdict}
 use Rattle.refusal.specs.declared.Verdict.the-variants.{Accepted, Refused}
@@ -54,7 +50,9 @@ module _ (xs : List ℕ) (g : Good xs) (h : Radices) (e : h ≡ listed (half xs)
     unfolding mergeAll
     merged-total m p = rw p (omega (arith, half-total, merged-leaves t .keeps .fewer))
 
-    pub answer-made : (m : Merged) → m ≡ mergeAll t → (n k : ℕ) (rs : List ℕ) → n ≡ product xs → k ≡ length (sorted (m .tally)) → rs ≡ padded (sorted (m .tally))
-        → _≡_ {A = Planned} (record { verdict = Accepted; plan = record { n = n; half = n / 2; count = k; radices = rs }; merges = m .merges }) (acceptedPlan xs)
+    pub answer-made : (m : Merged) → m ≡ mergeAll t → (n k : ℕ) (rs : List ℕ) → n ≡ product xs → k ≡ length (sorted (m .tally))
+        → rs ≡ padded (sorted (m .tally))
+        → _≡_ {A = Planned} (record { verdict = Accepted; plan = record { n = n; half = n / 2; count = k; radices = rs }; merges = m .merges })
+        (acceptedPlan xs)
     unfolding acceptedPlan recordOf factors mergeAll
     answer-made m p n k rs q u v = rw (u, v, q, p, half-tally)

@@ -1,15 +1,7 @@
 -- Laws of plan records: what an accepted list is, that the record depends on n alone, and which records planning gives. Assumes nothing.
-use Prim.Native.Nat.{ℕ, zero, suc, _+_, _-_, _*_, _/_, _%_, _<_, _≤_}
-use native.Mathlib.Nat.{one-mul}
-use native.Mathlib.Numerals.{add-one}
-use native.Mathlib.Omega.{arith}
-use mathlib.Core.Path.{_≡_, refl, sym, ap, _∙_}
-use mathlib.Core.Bool.{Bool, true, false, _&&_, false≢true}
-use mathlib.Core.List.{List, [], _∷_}
-use lib.Dec.{eqb}
-use lib.ListN.{length, getD, take, drop, drop-of-length-le, replicate, length-take}
-use lib.Seq.{take-at, drop-cons}
-use borrow.Author.Tests.{eqb-true, eq-eqb, ne-eqb, lt-ltb, le-leb, lt-leb, leb-true}
+use Rattle.sequences.proofs.Basics.{_≡_, refl, sym, ap, _∙_, ℕ, zero, suc, _+_, _-_, _*_, _/_, _%_, _<_, _≤_, one-mul, add-one, arith, Bool, true, false, _&&_}
+use Rattle.sequences.proofs.Basics.{false≢true, List, [], _∷_, eqb, length, getD, take, drop, drop-of-length-le, replicate, length-take, take-at, drop-cons}
+use Rattle.sequences.proofs.Basics.{eqb-true, eq-eqb, ne-eqb, lt-ltb, le-leb, lt-leb, leb-true}
 use Rattle.refusal.proofs.Rows.{deciding, accepted}
 use Rattle.refusal.specs.declared.Verdict.the-variants.{Accepted}
 use Rattle.radices.specs.Lists.{product, isRadix, indexOf, firstBad, firstOver, largest, padded, eqList}
@@ -35,8 +27,7 @@ pub record Good (xs : List ℕ) : Type 0 where
 pub accepted-good : (xs : List ℕ) → planVerdict xs ≡ Accepted → Good xs
 unfolding planVerdict
 accepted-good xs e =
-    let none : length xs ≡ 0 → ⊥ = search accepted in
-    let bad : length xs ≤ firstBad xs = search accepted in
+    let none : length xs ≡ 0 → ⊥ = search accepted in let bad : length xs ≤ firstBad xs = search accepted in
     let over : length xs ≤ firstOver 1 xs = search accepted in
     let odd : product xs % 2 ≡ 1 → ⊥ = search accepted depth 8 in
     record {
@@ -89,8 +80,7 @@ factors-product xs g =
 
 pub factors-few : (xs : List ℕ) → Good xs → total (stages xs) ≤ 13
 factors-few xs g =
-    let h = good-halved xs g in
-    let k = merged-leaves (tally (half xs)) .keeps in
+    let h = good-halved xs g in let k = merged-leaves (tally (half xs)) .keeps in
     omega (arith, k .fewer, total-few (half xs), h .fewer, good-few xs g)
 
 -- ---- the record depends on n alone
@@ -104,9 +94,7 @@ low-same a (suc b) c (suc d) p q e = (omega arith, omega arith)
 -- the same exponents, and at most one 2 or 4 in each: the same counts
 same-tally : (t u : Tally) → low t ≤ 1 → low u ≤ 1 → weight t ≡ weight u → t ≡ u
 same-tally t u p q e =
-    let w = weight-tells t u e in
-    let a = closed t p in
-    let b = closed u q in
+    let w = weight-tells t u e in let a = closed t p in let b = closed u q in
     let l = low-same (t .twos) (t .fours) (u .twos) (u .fours) p q (a .rest ∙ ap (λ (n : ℕ). n % 3) (w .0) ∙ sym (b .rest)) in
     let g = a .eights ∙ ap (λ (n : ℕ). n / 3) (w .0) ∙ sym (b .eights) in
     λ i. record { twos = l .0 i; threes = w .1 .0 i; fours = l .1 i; fives = w .1 .1 .0 i; sevens = w .1 .1 .1 i; eights = g i }
@@ -116,8 +104,7 @@ unfolding factors
 stages-weight xs g = ap (λ (n : ℕ). 2 * n) (sym (product-sorted (stages xs))) ∙ factors-product xs g
 
 pub stages-by-n : (xs ys : List ℕ) → Good xs → Good ys → product xs ≡ product ys → stages xs ≡ stages ys
-stages-by-n xs ys g h e =
-    same-tally (stages xs) (stages ys) (merged-leaves (tally (half xs)) .one) (merged-leaves (tally (half ys)) .one)
+stages-by-n xs ys g h e = same-tally (stages xs) (stages ys) (merged-leaves (tally (half xs)) .one) (merged-leaves (tally (half ys)) .one)
     (omega (arith, stages-weight xs g, stages-weight ys h, e))
 
 pub record-by-n : (xs ys : List ℕ) → Good xs → Good ys → product xs ≡ product ys → recordOf xs ≡ recordOf ys
@@ -154,8 +141,7 @@ module _ (t : Tally) (few : total t ≤ 13) (one : low t ≤ 1) where
   unfolding inOrder
   order-sorted k e =
       let used : take k (padded (sorted t)) ≡ sorted t = take-padded (sorted t) k (length-sorted t ∙ e) in
-      rw (used, tally-sorted t)
-      (simp (le-leb k 13 (omega arith), eq-eqb (total t) k e, le-leb (low t) 1 one) (list-refl (padded (sorted t))))
+      rw (used, tally-sorted t) (simp (le-leb k 13 (omega arith), eq-eqb (total t) k e, le-leb (low t) 1 one) (list-refl (padded (sorted t))))
 
 -- what the test of the radices tells
 pub record InOrder (k : ℕ) (rs : List ℕ) : Type 0 where
@@ -168,10 +154,7 @@ pub record InOrder (k : ℕ) (rs : List ℕ) : Type 0 where
 pub in-order : (k : ℕ) (rs : List ℕ) → inOrder k rs ≡ true → InOrder k rs
 unfolding inOrder
 in-order k rs e =
-    let a = both _ _ e in
-    let b = both _ _ (a .0) in
-    let c = both _ _ (b .0) in
-    let t = tally (take k rs) in
+    let a = both _ _ e in let b = both _ _ (a .0) in let c = both _ _ (b .0) in let t = tally (take k rs) in
     let counted : total t ≡ k = eqb-true (total t) k (c .1) in
     let array : rs ≡ padded (sorted t) = list-same rs (padded (sorted t)) (a .1) in
     record {
@@ -186,11 +169,14 @@ in-order k rs e =
 pub planned-passes : (xs : List ℕ) → Good xs → isPlanned (recordOf xs) ≡ true
 unfolding isPlanned recordOf sized factors
 planned-passes xs g =
-    let t = stages xs in
-    let p = factors-product xs g in
+    let t = stages xs in let p = factors-product xs g in
     let used : take (length (sorted t)) (padded (sorted t)) ≡ sorted t = take-padded (sorted t) (length (sorted t)) refl in
     rw (order-sorted t (factors-few xs g) (merged-leaves (tally (half xs)) .one) (length (sorted t)) (sym (length-sorted t)), used)
-    (simp (le-leb (product xs) largest (g .small), eq-eqb (product xs) (2 * (product xs / 2)) (omega (arith, g .even)), eq-eqb (product (sorted t)) (product xs / 2) (omega (arith, p))))
+    (simp (
+      le-leb (product xs) largest (g .small),
+      eq-eqb (product xs) (2 * (product xs / 2)) (omega (arith, g .even)),
+      eq-eqb (product (sorted t)) (product xs / 2) (omega (arith, p)),
+    ))
 
 -- what the test of the sizes tells
 pub record Sized (p : Record) : Type 0 where
@@ -201,13 +187,8 @@ pub record Sized (p : Record) : Type 0 where
 pub well-sized : (p : Record) → sized p ≡ true → Sized p
 unfolding sized
 well-sized p e =
-    let a = both _ _ e in
-    let b = both _ _ (a .0) in
-    record {
-      small = leb-true (p .n) largest (b .0);
-      twice = eqb-true (p .n) (2 * p .half) (b .1);
-      made = eqb-true _ (p .half) (a .1);
-    }
+    let a = both _ _ e in let b = both _ _ (a .0) in
+    record { small = leb-true (p .n) largest (b .0); twice = eqb-true (p .n) (2 * p .half) (b .1); made = eqb-true _ (p .half) (a .1) }
 
 -- a 2 in front of a list goes
 half-two : (xs : List ℕ) → half (2 ∷ xs) ≡ xs
@@ -252,8 +233,7 @@ module _ (p : Record) (o : InOrder (p .count) (p .radices)) (s : Sized p) where
 pub passes-plannable : (p : Record) → isPlanned p ≡ true → Plannable p
 unfolding isPlanned
 passes-plannable p e =
-    let a = both (inOrder (p .count) (p .radices)) (sized p) e in
-    let o = in-order (p .count) (p .radices) (a .0) in
+    let a = both (inOrder (p .count) (p .radices)) (sized p) e in let o = in-order (p .count) (p .radices) (a .0) in
     let s = well-sized p (a .1) in
     (front p o s, good-accepted (front p o s) (front-good p o s), front-record p o s)
 
@@ -293,8 +273,7 @@ module _ (k : ℕ) (rs : List ℕ) where
 
     pub order-uncounted : (n : ℕ) → n ≡ length (sorted t) → (n ≡ k → ⊥) → false ≡ inOrder k rs
     unfolding inOrder
-    order-uncounted n f h =
-        simp (← e, le-leb k 13 few, ne-eqb (total t) k (λ (g : total t ≡ k). h (f ∙ length-sorted t ∙ g)))
+    order-uncounted n f h = simp (← e, le-leb k 13 few, ne-eqb (total t) k (λ (g : total t ≡ k). h (f ∙ length-sorted t ∙ g)))
 
     module _ (n : ℕ) (f : n ≡ length (sorted t)) (g : n ≡ k) where
       pub order-low : 1 < low t → false ≡ inOrder k rs
@@ -314,8 +293,7 @@ order-radical k rs e =
 
 pub order-fits : (k : ℕ) (rs : List ℕ) → inOrder k rs ≡ true → k ≤ length rs
 order-fits k rs e =
-    let o = in-order k rs e in
-    let t = tally (take k rs) in
+    let o = in-order k rs e in let t = tally (take k rs) in
     let n : length (sorted t) ≤ 13 = omega (arith, length-sorted t, o .counted, o .few) in
     omega (arith, o .few, ap length (o .array) ∙ length-padded (sorted t) n)
 

@@ -1,12 +1,6 @@
 -- What is true of every accepted list: what merging keeps, how many merges there are, what is left, and that the record depends on n alone.
 -- Assumes nothing.
-use Prim.Native.Nat.{ℕ, zero, suc, _+_, _*_, _/_, _%_, _^_, _<_, _≤_}
-use native.Mathlib.Omega.{arith}
-use mathlib.Core.Path.{_≡_, refl, sym, ap, _∙_}
-use mathlib.Core.Logic.{_⊎_}
-use mathlib.Core.Bool.{true, cond}
-use mathlib.Core.List.{List}
-use lib.Dec.{eqb}
+use Rattle.sequences.proofs.Basics.{_≡_, refl, sym, ap, _∙_, ℕ, zero, suc, _+_, _*_, _/_, _%_, _^_, _<_, _≤_, arith, true, cond, _⊎_, List, eqb}
 use Rattle.refusal.specs.declared.Verdict.the-variants.{Accepted}
 use Rattle.radices.specs.Lists.{product, countOf}
 use Rattle.merging.specs.Half.{half}
@@ -29,7 +23,8 @@ low-is (suc (suc a)) zero n h e = absurd (omega arith)
 
 -- each single merge, by any rule that applies, keeps the product and the counts of 3, 5 and 7
 pub each-merge-keeps : (r : Rule) (t : Tally) → applies r t ≡ true
-    → (product (sorted (merge r t)) ≡ product (sorted t)) × ((merge r t .threes ≡ t .threes) × ((merge r t .fives ≡ t .fives) × (merge r t .sevens ≡ t .sevens)))
+    → (product (sorted (merge r t)) ≡ product (sorted t)) × ((merge r t .threes ≡ t .threes)
+    × ((merge r t .fives ≡ t .fives) × (merge r t .sevens ≡ t .sevens)))
 each-merge-keeps r t e =
     let k = applied-keeps r t e in
     (product-sorted (merge r t) ∙ weight-keeps k ∙ sym (product-sorted t), (k .threes, (k .fives, k .sevens)))
@@ -65,23 +60,16 @@ module _ (xs : List ℕ) (accepted : planVerdict xs ≡ Accepted) where
   -- with e the exponent of 2 in half the length, u being odd
   module _ (e u : ℕ) (made : product (half xs) ≡ 2 ^ e * u) (odd : u % 2 ≡ 1) where
     the-exponent : exponent (tally (half xs)) ≡ e
-    the-exponent =
-        exponent-is (tally (half xs)) e u
-        (sym (product-tally (half xs) (good-halved xs (accepted-good xs accepted) .radices)) ∙ made) odd
+    the-exponent = exponent-is (tally (half xs)) e u (sym (product-tally (half xs) (good-halved xs (accepted-good xs accepted) .radices)) ∙ made) odd
 
     -- e div 3 eights
     pub eights-left : countOf 8 (factors xs) ≡ e / 3
     unfolding factors tally
-    eights-left =
-        ap (λ (t : Tally). t .eights) (tally-sorted (stages xs))
-        ∙ merged-closed (tally (half xs)) .eights
-        ∙ ap (λ (n : ℕ). n / 3) the-exponent
+    eights-left = ap (λ (t : Tally). t .eights) (tally-sorted (stages xs)) ∙ merged-closed (tally (half xs)) .eights ∙ ap (λ (n : ℕ). n / 3) the-exponent
 
     rest-left : countOf 2 (factors xs) + 2 * countOf 4 (factors xs) ≡ e % 3
     unfolding factors tally
-    rest-left =
-        ap (λ (t : Tally). t .twos + 2 * t .fours) (tally-sorted (stages xs))
-        ∙ merged-closed (tally (half xs)) .rest
+    rest-left = ap (λ (t : Tally). t .twos + 2 * t .fours) (tally-sorted (stages xs)) ∙ merged-closed (tally (half xs)) .rest
         ∙ ap (λ (n : ℕ). n % 3) the-exponent
 
     one-left : countOf 2 (factors xs) + countOf 4 (factors xs) ≤ 1

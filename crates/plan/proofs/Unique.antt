@@ -1,9 +1,5 @@
 -- Two answers that meet a promise are equal, and wrong programs that no promise admits. Assumes nothing.
-use Prim.Native.Nat.{ℕ}
-use native.Mathlib.Omega.{arith}
-use mathlib.Core.Path.{_≡_, refl, sym, ap, _∙_}
-use mathlib.Core.Bool.{Bool, true, false}
-use mathlib.Core.List.{List, [], _∷_}
+use Rattle.sequences.proofs.Basics.{_≡_, refl, sym, ap, _∙_, ℕ, arith, Bool, true, false, List, [], _∷_}
 use Rattle.refusal.proofs.Unique.{agree}
 use Rattle.refusal.specs.declared.Refusal.{Refusal}
 use Rattle.refusal.specs.declared.Refusal.the-variants.{NoRadix}
@@ -59,7 +55,8 @@ one-plan r p =
 
 -- [2, 2, 3] is halved first, so that nothing is left to merge
 pub halved-first : planned (2 ∷ 2 ∷ 3 ∷ []) .merges .count ≡ 0
-unfolding planned planVerdict firstBad firstThat isRadix firstOver product acceptedPlan marked letters rules rulesUpTo firstRule applies tally countOf half halving halved indexOf
+unfolding planned planVerdict firstBad firstThat isRadix firstOver product acceptedPlan marked letters rules rulesUpTo firstRule applies tally countOf half
+    halving halved indexOf
 halved-first = refl
 
 -- a byte that is no radix is reported before a product that is too large

@@ -1,12 +1,6 @@
 -- Laws of a text that grows at its end. Assumes nothing.
-use Prim.Native.Nat.{ℕ, zero, suc, _+_, _-_, _≤_, _<_}
-use native.Mathlib.Nat.{add-zero}
-use native.Mathlib.Numerals.{add-one}
-use native.Mathlib.Omega.{arith}
-use mathlib.Core.Path.{_≡_, refl, sym, ap, _∙_}
-use mathlib.Core.List.{List, [], _∷_, _++_, map, append-assoc, append-nil, map-append}
-use lib.ListN.{length, getD, set, take, drop, replicate, length-append}
-use lib.Seq.{set-append-seam, drop-cons, take-suc}
+use Rattle.sequences.proofs.Basics.{_≡_, refl, sym, ap, _∙_, ℕ, zero, suc, _+_, _-_, _≤_, _<_, add-zero, add-one, arith, List, [], _∷_, _++_, map, append-assoc}
+use Rattle.sequences.proofs.Basics.{append-nil, map-append, length, getD, set, take, drop, replicate, length-append, set-append-seam, drop-cons, take-suc}
 use Rattle.plan_text.specs.Report.{textOf, factorWords}
 use Rattle.plan_text.specs.Lines.{decimal, spaced}
 use Rattle.plan_text.specs.Growing.{put, puts, Starts, Adds, Holds}
@@ -37,20 +31,14 @@ put-text ys b h =
     let n : length (ys ++ (b ∷ [])) ≡ length ys + 1 = length-append ys (b ∷ []) in
     let left : 256 - length ys ≡ suc (255 - length ys) = omega arith in
     let right : 255 - length ys ≡ 256 - length (ys ++ (b ∷ [])) = omega arith in
-    same
-    (ap (λ (m : ℕ). set (ys ++ replicate m 0) (length ys) b) left
-    ∙ set-append-seam ys 0 r b
-    ∙ sym (append-assoc ys (b ∷ []) r)
-    ∙ ap (λ (m : ℕ). (ys ++ (b ∷ [])) ++ replicate m 0) right)
-    (sym n)
+    same (ap (λ (m : ℕ). set (ys ++ replicate m 0) (length ys) b) left ∙ set-append-seam ys 0 r b ∙ sym (append-assoc ys (b ∷ []) r)
+    ∙ ap (λ (m : ℕ). (ys ++ (b ∷ [])) ++ replicate m 0) right) (sym n)
 
 -- more bytes behind it
 puts-textOf : (ys xs : List ℕ) → length ys + length xs ≤ 256 → puts (textOf ys) xs ≡ textOf (ys ++ xs)
 puts-textOf ys [] h = ap textOf (sym (append-nil ys))
-puts-textOf ys (b ∷ xs) h =
-    ap (λ (t : Text). puts t xs) (put-text ys b (omega arith))
-    ∙ puts-textOf (ys ++ (b ∷ [])) xs (omega (arith, length-append ys (b ∷ [])))
-    ∙ ap textOf (append-assoc ys (b ∷ []) xs)
+puts-textOf ys (b ∷ xs) h = ap (λ (t : Text). puts t xs) (put-text ys b (omega arith))
+    ∙ puts-textOf (ys ++ (b ∷ [])) xs (omega (arith, length-append ys (b ∷ []))) ∙ ap textOf (append-assoc ys (b ∷ []) xs)
 
 -- bytes from nothing
 pub puts-empty : (xs : List ℕ) → length xs ≤ 256 → puts (textOf []) xs ≡ textOf xs
@@ -75,21 +63,18 @@ holds {e} {r} {xs} p h f =
 -- words in two goes
 pub spaced-append : (xs ys : List (List ℕ)) → spaced (xs ++ ys) ≡ spaced xs ++ spaced ys
 spaced-append [] ys = refl
-spaced-append (w ∷ xs) ys = ap (λ (l : List ℕ). 32 ∷ (w ++ l)) (spaced-append xs ys) ∙ ap (λ (l : List ℕ). 32 ∷ l) (sym (append-assoc w (spaced xs) (spaced ys)))
+spaced-append (w ∷ xs) ys = ap (λ (l : List ℕ). 32 ∷ (w ++ l)) (spaced-append xs ys)
+    ∙ ap (λ (l : List ℕ). 32 ∷ l) (sym (append-assoc w (spaced xs) (spaced ys)))
 
 -- two words, then the rest
 pub two-words : (a b rest : List ℕ) → spaced (a ∷ []) ++ (spaced (b ∷ []) ++ rest) ≡ spaced (a ∷ (b ∷ [])) ++ rest
-two-words a b rest =
-    sym (ap (λ (l : List ℕ). l ++ rest) (spaced-append (a ∷ []) (b ∷ [])) ∙ append-assoc (spaced (a ∷ [])) (spaced (b ∷ [])) rest)
+two-words a b rest = sym (ap (λ (l : List ℕ). l ++ rest) (spaced-append (a ∷ []) (b ∷ [])) ∙ append-assoc (spaced (a ∷ [])) (spaced (b ∷ [])) rest)
 
 -- one radix more
 pub spaced-next : (rs : List ℕ) (i : ℕ) → i < length rs
     → spaced (map decimal (take i rs)) ++ spaced (decimal (getD rs i 0) ∷ []) ≡ spaced (map decimal (take (i + 1) rs))
-spaced-next rs i h =
-    sym
-    (ap (λ (l : List ℕ). spaced (map decimal l)) (ap (λ (k : ℕ). take k rs) (add-one i) ∙ take-suc rs i 0 h)
-    ∙ ap spaced (map-append decimal (take i rs) (getD rs i 0 ∷ []))
-    ∙ spaced-append (map decimal (take i rs)) (decimal (getD rs i 0) ∷ []))
+spaced-next rs i h = sym (ap (λ (l : List ℕ). spaced (map decimal l)) (ap (λ (k : ℕ). take k rs) (add-one i) ∙ take-suc rs i 0 h)
+    ∙ ap spaced (map-append decimal (take i rs) (getD rs i 0 ∷ [])) ∙ spaced-append (map decimal (take i rs)) (decimal (getD rs i 0) ∷ []))
 
 -- the words of some radices
 pub some-factors : (count : ℕ) (rs : List ℕ) → 0 < count → 0 < length rs → factorWords (take count rs) ≡ map decimal (take count rs)

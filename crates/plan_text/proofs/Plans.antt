@@ -1,13 +1,6 @@
 -- What the report takes from planning. Assumes nothing.
-use Prim.Native.Nat.{ℕ, min, _≤_}
-use native.Mathlib.Decide.{decLe}
-use native.Mathlib.Omega.{arith}
-use mathlib.Core.Logic.{dite}
-use mathlib.Core.Path.{_≡_, refl, sym, ap, _∙_}
-use mathlib.Core.Bool.{Bool, true, false, _&&_}
-use mathlib.Core.List.{List}
-use lib.ListN.{length, take}
-use lib.Seq.{take-length, take-all}
+use Rattle.sequences.proofs.Basics.{_≡_, refl, sym, ap, _∙_, ℕ, min, _≤_, arith, decLe, Bool, true, false, _&&_, dite, List, length, take, take-length}
+use Rattle.sequences.proofs.Basics.{take-all}
 use Rattle.refusal.specs.Refusal.{verdict}
 use Rattle.refusal.specs.declared.Verdict.{Verdict}
 use Rattle.refusal.specs.declared.Verdict.the-variants.{Accepted, Refused}
@@ -56,12 +49,9 @@ planned-ok xs r e v =
 
 -- no more than there is
 pub take-least : (n : ℕ) (xs : List ℕ) → take (min (length xs) n) xs ≡ take n xs
-take-least n xs =
-    dite (decLe (length xs) n)
-    (λ (h : length xs ≤ n).
+take-least n xs = dite (decLe (length xs) n) (λ (h : length xs ≤ n).
     let e : min (length xs) n ≡ length xs = omega arith in
-    ap (λ (k : ℕ). take k xs) e ∙ take-length xs ∙ sym (take-all n xs h))
-    (λ (h : length xs ≤ n → ⊥).
+    ap (λ (k : ℕ). take k xs) e ∙ take-length xs ∙ sym (take-all n xs h)) (λ (h : length xs ≤ n → ⊥).
     let e : min (length xs) n ≡ n = omega arith in
     ap (λ (k : ℕ). take k xs) e)
 

@@ -1,14 +1,6 @@
 -- Laws of reading tokens byte by byte. Assumes nothing.
-use Prim.Native.Nat.{ℕ, suc, _+_, _-_, _*_, _≤_, _<_}
-use native.Mathlib.Numerals.{add-one}
-use native.Mathlib.Omega.{arith}
-use mathlib.Core.Path.{_≡_, refl, sym, ap, _∙_}
-use mathlib.Core.Bool.{Bool, true, false, cond}
-use mathlib.Core.List.{List, [], _∷_, _++_, map, append-assoc, append-nil}
-use lib.Dec.{eqb, lit<}
-use lib.ListN.{length, getD, take, drop, set, length-set}
-use lib.Seq.{take-suc-set, drop-cons}
-use borrow.Author.Tests.{ne-eqb}
+use Rattle.sequences.proofs.Basics.{_≡_, refl, sym, ap, _∙_, ℕ, suc, _+_, _-_, _*_, _≤_, _<_, add-one, arith, Bool, true, false, cond, List, [], _∷_, _++_, map}
+use Rattle.sequences.proofs.Basics.{append-assoc, append-nil, eqb, lit<, length, getD, take, drop, set, length-set, take-suc-set, drop-cons, ne-eqb}
 use Rattle.radices.specs.Lists.{isRadix}
 use Rattle.plan_text.specs.Tokens.{isBlank, ended, tokensFrom, tokens, digitValue, radixOf, radices}
 use Rattle.plan_text.specs.Reading.{grown, size, room, pushed, endedBy, endedToken, stepBy, stepped}
@@ -68,17 +60,15 @@ gives s bs = take (s .count) (s .list) ++ radicesFrom (s .token) bs
 -- at the start
 pub gives-start : (s : Reading) (bs : List ℕ) → s .count ≡ 0 → s .token ≡ Nothing → gives s bs ≡ radices bs
 unfolding gives radices tokens kept
-gives-start s bs p q =
-    ap (λ (k : ℕ). take k (s .list) ++ radicesFrom (s .token) bs) p
-    ∙ ap (λ (k : Token). radicesFrom k bs) q
-    ∙ sym (from-kept [] bs)
+gives-start s bs p q = ap (λ (k : ℕ). take k (s .list) ++ radicesFrom (s .token) bs) p ∙ ap (λ (k : Token). radicesFrom k bs) q ∙ sym (from-kept [] bs)
 
 -- a token that ended as a radix
 gives-pushed : (s : Reading) (v : ℕ) (bs : List ℕ) → s .count < length (s .list)
     → take (s .count) (s .list) ++ ((v ∷ []) ++ radicesFrom Nothing bs) ≡ gives (pushed s v) bs
 unfolding gives
 gives-pushed s v bs h =
-    sym (ap (λ (l : List ℕ). l ++ radicesFrom Nothing bs) (ap (λ (k : ℕ). take k (set (s .list) (s .count) v)) (add-one (s .count)) ∙ take-suc-set (s .list) (s .count) v h)
+    sym (ap (λ (l : List ℕ). l ++ radicesFrom Nothing bs) (ap (λ (k : ℕ). take k (set (s .list) (s .count) v)) (add-one (s .count))
+    ∙ take-suc-set (s .list) (s .count) v h)
     ∙ append-assoc (take (s .count) (s .list)) (v ∷ []) (radicesFrom Nothing bs))
 
 -- at a blank
@@ -94,8 +84,7 @@ gives-step : (s : Reading) (b : ℕ) (bs : List ℕ) → room s ≤ 4096 → len
 unfolding gives radicesFrom
 gives-step s b bs h l = go (isBlank b)
   where
-    go : (x : Bool) →
-        take (s .count) (s .list) ++ cond x (closed (s .token) ++ radicesFrom Nothing bs) (radicesFrom (grown (s .token) b) bs)
+    go : (x : Bool) → take (s .count) (s .list) ++ cond x (closed (s .token) ++ radicesFrom Nothing bs) (radicesFrom (grown (s .token) b) bs)
         ≡ gives (stepBy x s b) bs
     go true = gives-blank s (s .token) bs refl h l
     go false = refl
@@ -103,10 +92,8 @@ gives-step s b bs h l = go (isBlank b)
 -- at the next byte of a text
 pub gives-next : (s : Reading) (text : List ℕ) (i : ℕ) → i < length text → room s ≤ 4096 → length (s .list) ≡ 2048
     → gives (stepped s (getD text i 0)) (drop (i + 1) text) ≡ gives s (drop i text)
-gives-next s text i p h l =
-    ap (λ (k : ℕ). gives (stepped s (getD text i 0)) (drop k text)) (add-one i)
-    ∙ sym (gives-step s (getD text i 0) (drop (suc i) text) h l)
-    ∙ ap (gives s) (sym (drop-cons text i 0 p))
+gives-next s text i p h l = ap (λ (k : ℕ). gives (stepped s (getD text i 0)) (drop k text)) (add-one i)
+    ∙ sym (gives-step s (getD text i 0) (drop (suc i) text) h l) ∙ ap (gives s) (sym (drop-cons text i 0 p))
 
 -- no token is left
 ended-nothing : (s : Reading) (t : Token) → s .token ≡ t → endedBy t s .token ≡ Nothing
@@ -117,9 +104,7 @@ ended-nothing s More e = refl
 -- at the end
 pub gives-end : (s : Reading) → room s ≤ 4096 → length (s .list) ≡ 2048 → gives s [] ≡ take (endedToken s .count) (endedToken s .list)
 unfolding gives radicesFrom
-gives-end s h l =
-    ap (λ (r : List ℕ). take (s .count) (s .list) ++ r) (sym (append-nil (closed (s .token))))
-    ∙ gives-blank s (s .token) [] refl h l
+gives-end s h l = ap (λ (r : List ℕ). take (s .count) (s .list) ++ r) (sym (append-nil (closed (s .token)))) ∙ gives-blank s (s .token) [] refl h l
     ∙ ap (λ (k : Token). take (endedToken s .count) (endedToken s .list) ++ radicesFrom k []) (ended-nothing s (s .token) refl)
     ∙ append-nil (take (endedToken s .count) (endedToken s .list))
 
@@ -173,9 +158,7 @@ above b k e h = omega arith
 -- a byte that is none of the digits
 pub no-digit : (b : ℕ) → (b ≡ 50 → ⊥) → (b ≡ 51 → ⊥) → (b ≡ 52 → ⊥) → (b ≡ 53 → ⊥) → (b ≡ 55 → ⊥) → (b ≡ 56 → ⊥) → digitValue b ≡ 0
 unfolding digitValue isRadix
-no-digit b p q r s t u =
-    simp
-    (not 2 (lit< tt) p, not 3 (lit< tt) q, not 4 (lit< tt) r, not 5 (lit< tt) s, not 7 (lit< tt) t, not 8 (lit< tt) u)
+no-digit b p q r s t u = simp (not 2 (lit< tt) p, not 3 (lit< tt) q, not 4 (lit< tt) r, not 5 (lit< tt) s, not 7 (lit< tt) t, not 8 (lit< tt) u)
   where
     not : (k : ℕ) → 0 < k → (b ≡ 48 + k → ⊥) → eqb (b - 48) k ≡ false
     not k h n = ne-eqb (b - 48) k (λ (e : b - 48 ≡ k). n (above b k e h))

@@ -1,10 +1,5 @@
 -- What follows from the promise of `report`: its used bytes, and worked examples. Assumes nothing.
-use Prim.Native.Nat.{ℕ, _-_, _≤_}
-use native.Mathlib.Omega.{arith}
-use mathlib.Core.Path.{_≡_, refl, sym, ap, _∙_}
-use mathlib.Core.List.{List, []}
-use lib.ListN.{length, take, replicate, length-append}
-use lib.Seq.{take-append-seam}
+use Rattle.sequences.proofs.Basics.{_≡_, refl, sym, ap, _∙_, ℕ, _-_, _≤_, arith, List, [], length, take, replicate, length-append, take-append-seam}
 use Rattle.radices.specs.Lists.{isRadix, product, firstBad, firstOver, indexOf, countOf, padded}
 use Rattle.sequences.specs.Lists.{firstThat}
 use Rattle.merging.specs.Half.{halving, halved, half}
@@ -26,12 +21,7 @@ report-used {input} f =
 pub report-fits : {input : List ℕ} {r : Text} → Reports input r → r .len ≤ length (r .bytes)
 report-fits {input} f =
     let xs = reportOf input in
-    omega (
-      arith,
-      ap (λ (t : Text). t .len) (f .answer),
-      ap (λ (t : Text). length (t .bytes)) (f .answer),
-      length-append xs (replicate (256 - length xs) 0),
-    )
+    omega (arith, ap (λ (t : Text). t .len) (f .answer), ap (λ (t : Text). length (t .bytes)) (f .answer), length-append xs (replicate (256 - length xs) 0))
 
 -- as many as the length says
 pub report-counts : {input : List ℕ} {r : Text} → Reports input r → r .len ≡ length (take (r .len) (r .bytes))
@@ -39,10 +29,13 @@ report-counts f = ap (λ (t : Text). t .len) (f .answer) ∙ sym (ap length (rep
 
 -- nothing read
 nothing : reportOf [] ≡ ascii "refused 1 0\n"
-unfolding reportOf radices tokens tokensFrom isBlank radixOf digitValue isRadix planned planVerdict firstBad firstThat firstOver product refusedPlan refusalLine decimal lastDigits
+unfolding reportOf radices tokens tokensFrom isBlank radixOf digitValue isRadix planned planVerdict firstBad firstThat firstOver product refusedPlan
+    refusalLine decimal lastDigits
 nothing = refl
 
 -- the list 3, 2, 2
 twelve : reportOf (ascii "3 2 2\n") ≡ ascii "n 12\nhalf 6\nfactors 2 3\nmerges 0\nstage 4\nend 2\nresult data\n"
-unfolding reportOf radices tokens tokensFrom isBlank radixOf digitValue isRadix planned planVerdict firstBad firstThat firstOver product acceptedPlan recordOf factors sorted merged mergedBy rules rulesUpTo firstRule applies merge tally countOf half halving halved indexOf letters marked padded planLines factorWords twiddleStart twiddleCount radix endCount resultIn decimal lastDigits
+unfolding reportOf radices tokens tokensFrom isBlank radixOf digitValue isRadix planned planVerdict firstBad firstThat firstOver product acceptedPlan recordOf
+    factors sorted merged mergedBy rules rulesUpTo firstRule applies merge tally countOf half halving halved indexOf letters marked padded planLines
+    factorWords twiddleStart twiddleCount radix endCount resultIn decimal lastDigits
 twelve = refl

@@ -1,13 +1,8 @@
 -- Laws of lists of radices: first places step by step, running products, counts, arrays. Assumes nothing.
-use Prim.Native.Nat.{ℕ, zero, suc, _+_, _-_, _*_, _^_, _<_, _≤_}
-use native.Mathlib.Nat.{add-zero, mul-one, one-mul, mul-assoc, mul-le-mul}
-use native.Mathlib.Numerals.{add-one}
-use native.Mathlib.Omega.{arith}
-use mathlib.Core.Path.{_≡_, refl, sym, ap, _∙_}
-use mathlib.Core.List.{List, [], _∷_, _++_, append-assoc}
-use lib.ListN.{length, length-set, getD, set, take, drop, replicate, length-append, length-drop, drop-of-length-le, length-replicate}
-use lib.Seq.{take-all, drop-cons, take-suc, take-append-seam, take-length, drop-append-add, set-append-left, set-at, paste, paste-suc}
-use borrow.Author.Tests.{eq-eqb, ne-eqb, lt-ltb, le-ltb}
+use Rattle.sequences.proofs.Basics.{_≡_, refl, sym, ap, _∙_, ℕ, zero, suc, _+_, _-_, _*_, _^_, _<_, _≤_, add-zero, mul-one, one-mul, mul-assoc, mul-le-mul}
+use Rattle.sequences.proofs.Basics.{add-one, arith, List, [], _∷_, _++_, append-assoc, length, length-set, getD, set, take, drop, replicate, length-append}
+use Rattle.sequences.proofs.Basics.{length-drop, drop-of-length-le, length-replicate, take-all, drop-cons, take-suc, take-append-seam, take-length}
+use Rattle.sequences.proofs.Basics.{drop-append-add, set-append-left, set-at, paste, paste-suc, eq-eqb, ne-eqb, lt-ltb, le-ltb}
 use Rattle.radices.specs.declared.Radices.{Radices}
 use Rattle.radices.specs.declared.inner.lists.Running.{Running}
 use Rattle.radices.specs.Lists.{product, firstOver, largest, countOf, padded, listed, runningProduct}
@@ -41,34 +36,27 @@ product-append (x ∷ xs) ys = ap (λ (n : ℕ). x * n) (product-append xs ys) �
 -- one more element
 pub product-next : (xs : List ℕ) (i : ℕ) → i < length xs → product (take (i + 1) xs) ≡ product (take i xs) * getD xs i 0
 unfolding product
-product-next xs i h =
-    ap product (ap (λ (k : ℕ). take k xs) (add-one i) ∙ take-suc xs i 0 h)
-    ∙ product-append (take i xs) (getD xs i 0 ∷ [])
+product-next xs i h = ap product (ap (λ (k : ℕ). take k xs) (add-one i) ∙ take-suc xs i 0 h) ∙ product-append (take i xs) (getD xs i 0 ∷ [])
     ∙ ap (λ (n : ℕ). product (take i xs) * n) (mul-one (getD xs i 0))
 
 -- the running product p stays within the largest length over the next element, or does not
 pub over-skip : (xs : List ℕ) (p i : ℕ) → i < length xs → p * getD xs i 0 ≤ largest
     → firstOver 1 xs ≡ i + firstOver p (drop i xs) → firstOver 1 xs ≡ i + 1 + firstOver (p * getD xs i 0) (drop (i + 1) xs)
 unfolding firstOver
-over-skip xs p i h t e =
-    e ∙ ap (λ (l : List ℕ). i + firstOver p l) (drop-cons xs i 0 h) ∙ simp (le-ltb largest (p * getD xs i 0) t, add-one) (omega arith)
+over-skip xs p i h t e = e ∙ ap (λ (l : List ℕ). i + firstOver p l) (drop-cons xs i 0 h) ∙ simp (le-ltb largest (p * getD xs i 0) t, add-one) (omega arith)
 
-pub over-here : (xs : List ℕ) (p i : ℕ) → i < length xs → largest < p * getD xs i 0
-    → firstOver 1 xs ≡ i + firstOver p (drop i xs) → firstOver 1 xs ≡ i
+pub over-here : (xs : List ℕ) (p i : ℕ) → i < length xs → largest < p * getD xs i 0 → firstOver 1 xs ≡ i + firstOver p (drop i xs) → firstOver 1 xs ≡ i
 unfolding firstOver
-over-here xs p i h t e =
-    e ∙ ap (λ (l : List ℕ). i + firstOver p l) (drop-cons xs i 0 h) ∙ simp (lt-ltb largest (p * getD xs i 0) t, add-zero)
+over-here xs p i h t e = e ∙ ap (λ (l : List ℕ). i + firstOver p l) (drop-cons xs i 0 h) ∙ simp (lt-ltb largest (p * getD xs i 0) t, add-zero)
 
-pub over-none : (xs : List ℕ) (p i : ℕ) → i ≤ length xs → length xs ≤ i
-    → firstOver 1 xs ≡ i + firstOver p (drop i xs) → firstOver 1 xs ≡ i
+pub over-none : (xs : List ℕ) (p i : ℕ) → i ≤ length xs → length xs ≤ i → firstOver 1 xs ≡ i + firstOver p (drop i xs) → firstOver 1 xs ≡ i
 unfolding firstOver
 over-none xs p i g h e = e ∙ ap (λ (l : List ℕ). i + firstOver p l) (drop-of-length-le xs h) ∙ add-zero i
 
 -- one more element is laid over an array
 pub paste-next : (d : List ℕ) (at : ℕ) (s : List ℕ) (i v : ℕ) (out : List ℕ) → at + i < length d → i < length s → getD s i 0 ≡ v
     → out ≡ paste d at s i → set out (at + i) v ≡ paste d at s (i + 1)
-paste-next d at s i v out h g t e =
-    rw (e, ← t) (paste-suc d at s i 0 h g ∙ ap (λ (n : ℕ). paste d at s n) (sym (add-one i)))
+paste-next d at s i v out h g t e = rw (e, ← t) (paste-suc d at s i 0 h g ∙ ap (λ (n : ℕ). paste d at s n) (sym (add-one i)))
 
 drop-replicate : (n k a : ℕ) → drop n (replicate k a) ≡ replicate (k - n) a
 drop-replicate zero k a = ap (λ (m : ℕ). replicate m a) {x = k} {y = k - 0} (omega arith)
@@ -80,12 +68,9 @@ unfolding padded
 length-padded xs h = simp (length-append, length-replicate) (omega arith)
 
 -- laying a list behind the one that an array holds
-pub paste-padded : (xs ys : List ℕ) (at n : ℕ) → length xs ≡ at → length ys ≡ n → at + n ≤ 13
-    → paste (padded xs) at ys n ≡ padded (xs ++ ys)
+pub paste-padded : (xs ys : List ℕ) (at n : ℕ) → length xs ≡ at → length ys ≡ n → at + n ≤ 13 → paste (padded xs) at ys n ≡ padded (xs ++ ys)
 unfolding padded
-paste-padded xs ys at n p q h =
-    rw (← p, ← q)
-    (simp (take-append-seam xs, take-length, drop-append-add, drop-replicate, length-append)
+paste-padded xs ys at n p q h = rw (← p, ← q) (simp (take-append-seam xs, take-length, drop-append-add, drop-replicate, length-append)
     (ap (λ (m : ℕ). xs ++ ys ++ replicate m 0) {x = 13 - length xs - length ys} {y = 13 - (length xs + length ys)} (omega arith)))
 
 -- the running product of the whole list
@@ -98,7 +83,8 @@ unfolding runningProduct
 running-place xs = refl
 
 -- the running product as far as it goes
-pub running-at : (xs : List ℕ) (at p : ℕ) → firstOver 1 xs ≡ at → p ≡ product (take at xs) → _≡_ {A = Running} (record { at = at; product = p }) (runningProduct xs)
+pub running-at : (xs : List ℕ) (at p : ℕ) → firstOver 1 xs ≡ at → p ≡ product (take at xs)
+    → _≡_ {A = Running} (record { at = at; product = p }) (runningProduct xs)
 unfolding runningProduct
 running-at xs at p e q = rw (e, ← q)
 
@@ -136,10 +122,8 @@ filled-padded xs prev r at k v p h e f =
 -- one element laid behind it
 pub push-padded : (xs : List ℕ) (at v : ℕ) → length xs ≡ at → at < 13 → set (padded xs) at v ≡ padded (xs ++ (v ∷ []))
 unfolding padded
-push-padded xs at v p h =
-    ap (λ (m : ℕ). set (xs ++ replicate m 0) at v) {x = 13 - length xs} {y = suc (12 - at)} (omega arith)
-    ∙ set-at xs 0 (replicate (12 - at) 0) v at p
-    ∙ sym (append-assoc xs (v ∷ []) (replicate (12 - at) 0))
+push-padded xs at v p h = ap (λ (m : ℕ). set (xs ++ replicate m 0) at v) {x = 13 - length xs} {y = suc (12 - at)} (omega arith)
+    ∙ set-at xs 0 (replicate (12 - at) 0) v at p ∙ sym (append-assoc xs (v ∷ []) (replicate (12 - at) 0))
     ∙ ap (λ (m : ℕ). xs ++ (v ∷ []) ++ replicate m 0) {x = 12 - at} {y = 13 - length (xs ++ (v ∷ []))} (omega (arith, length-append xs (v ∷ [])))
 
 pub getD-any : (xs : List ℕ) (j a b : ℕ) → j < length xs → getD xs j a ≡ getD xs j b

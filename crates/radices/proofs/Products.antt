@@ -1,16 +1,8 @@
 -- Laws of products of radices: lists of radices only, their least and largest products, and the product by exponents. Assumes nothing.
-use Prim.Native.Nat.{ℕ, zero, suc, _+_, _*_, _^_, _<_, _≤_, _-_}
-use native.Mathlib.Nat.{one-mul, mul-one, mul-assoc, mul-le-mul, mul-le-mul-left, mul-pos, pow-zero, pow-suc, pow-succ', lt-of-not-le, le-antisymm}
-use native.Mathlib.Omega.{arith}
-use native.Mathlib.Decide.{decLe}
-use mathlib.Core.Path.{_≡_, refl, sym, ap, _∙_}
-use mathlib.Core.Logic.{_⊎_, inl, inr, dite}
-use mathlib.Core.Bool.{Bool, true, false, cond, not, _||_, false≢true}
-use mathlib.Core.List.{List, [], _∷_, _++_}
-use lib.Dec.{eqb, ltb}
-use lib.Pow.{pow-add, pow-lt}
-use lib.ListN.{length, replicate}
-use borrow.Author.Tests.{eqb-true, le-ltb, ltb-false}
+use Rattle.sequences.proofs.Basics.{_≡_, refl, sym, ap, _∙_, ℕ, zero, suc, _+_, _*_, _^_, _<_, _≤_, _-_, one-mul, mul-one, mul-assoc, mul-le-mul}
+use Rattle.sequences.proofs.Basics.{mul-le-mul-left, mul-pos, pow-zero, pow-suc, pow-succ', lt-of-not-le, le-antisymm, arith, decLe, Bool, true, false, cond}
+use Rattle.sequences.proofs.Basics.{not, _||_, false≢true, _⊎_, inl, inr, dite, List, [], _∷_, _++_, eqb, ltb, length, replicate, pow-add, pow-lt, eqb-true}
+use Rattle.sequences.proofs.Basics.{le-ltb, ltb-false}
 use Rattle.sequences.proofs.First.{first-most}
 use Rattle.radices.specs.Lists.{isRadix, product, firstBad, firstOver, largest, runningProduct}
 use Rattle.sequences.specs.Lists.{firstThat}
@@ -47,7 +39,8 @@ unfolding firstBad firstThat Radical
 radical [] e = tt
 radical (b ∷ bs) e = go (isRadix b) refl e (λ (f : firstBad bs ≡ length bs). radical bs f)
   where
-    go : (t : Bool) → isRadix b ≡ t → cond (not t) 0 (suc (firstBad bs)) ≡ suc (length bs) → (firstBad bs ≡ length bs → Radical bs) → (isRadix b ≡ true) × Radical bs
+    go : (t : Bool) → isRadix b ≡ t → cond (not t) 0 (suc (firstBad bs)) ≡ suc (length bs) → (firstBad bs ≡ length bs → Radical bs) → (isRadix b ≡ true)
+        × Radical bs
     go true p e f = (p, f (omega arith))
     go false p e f = absurd (omega arith)
 
@@ -97,9 +90,7 @@ product-positive (b ∷ bs) r = mul-pos (omega (arith, radix-least b (r .0))) (p
 
 -- so 13 entries at most within the largest length
 pub entries-few : (xs : List ℕ) → Radical xs → product xs ≤ largest → length xs ≤ 13
-entries-few xs r h =
-    dite (decLe (length xs) 13) (λ (p : length xs ≤ 13). p)
-    (λ (n : length xs ≤ 13 → ⊥).
+entries-few xs r h = dite (decLe (length xs) 13) (λ (p : length xs ≤ 13). p) (λ (n : length xs ≤ 13 → ⊥).
     let more : 13 < length xs = lt-of-not-le n in
     absurd (let a = pow-lt more in let b = product-least xs r in omega arith))
 
@@ -159,9 +150,7 @@ over-none-at xs h = le-antisymm (over-most 1 xs) h
 
 -- a running product that ends early is too large
 pub over-large : (xs : List ℕ) → Radical xs → firstOver 1 xs < length xs → largest < product xs
-over-large xs r h =
-    dite (decLe (product xs) largest)
-    (λ (p : product xs ≤ largest). absurd (omega (arith, small-over-none 1 xs r (rw one-mul p))))
+over-large xs r h = dite (decLe (product xs) largest) (λ (p : product xs ≤ largest). absurd (omega (arith, small-over-none 1 xs r (rw one-mul p))))
     (λ (n : product xs ≤ largest → ⊥). lt-of-not-le n)
 
 -- what `running_product` answers, at its end or before
@@ -169,5 +158,4 @@ pub running-early : (xs : List ℕ) (r : Running) → r ≡ runningProduct xs �
 running-early xs r e = ap (λ (x : Running). x .at) e ∙ running-place xs
 
 pub running-through : (xs : List ℕ) (r : Running) → r ≡ runningProduct xs → length xs ≤ r .at → r .product ≡ product xs
-running-through xs r e h =
-    ap (λ (x : Running). x .product) (e ∙ running-all xs (over-none-at xs (omega (arith, running-early xs r e))))
+running-through xs r e h = ap (λ (x : Running). x .product) (e ∙ running-all xs (over-none-at xs (omega (arith, running-early xs r e))))

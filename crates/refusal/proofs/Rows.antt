@@ -1,10 +1,6 @@
 -- Laws of the verdict: which row decides, what an accepted call tells, what its tests tell of numbers, and what a call leaves. Assumes nothing.
-use Prim.Native.Nat.{ℕ, _*_, _<_, _≤_}
-use mathlib.Core.Path.{_≡_, refl, ap, _∙_}
-use mathlib.Core.Bool.{Bool, true, false, not, _||_}
-use mathlib.Core.List.{List, [], _∷_, _++_}
-use lib.Dec.{eqb, ltb}
-use borrow.Author.Tests.{eq-eqb, ne-eqb, lt-ltb, le-ltb, eqb-true, eqb-false, ltb-true, ltb-false, not-true, not-false}
+use Rattle.sequences.proofs.Basics.{_≡_, refl, ap, _∙_, ℕ, _*_, _<_, _≤_, Bool, true, false, not, _||_, List, [], _∷_, _++_, eqb, ltb, eq-eqb, ne-eqb, lt-ltb}
+use Rattle.sequences.proofs.Basics.{le-ltb, eqb-true, eqb-false, ltb-true, ltb-false, not-true, not-false}
 use Rattle.refusal.specs.Refusal.{Row, verdictBy, verdict, left, Settles}
 use Rattle.refusal.specs.declared.Refusal.{Refusal}
 use Rattle.refusal.specs.declared.Verdict.{Verdict}
@@ -94,19 +90,7 @@ pub not-second : (a b : Bool) → (a || b) ≡ false → b ≡ false
 not-second true b e = cc
 not-second false b e = e
 
-pub ruleset accepted = (
-  not-given,
-  others-accept,
-  not-first,
-  not-second,
-  told-not,
-  not-true,
-  not-false,
-  eqb-true,
-  eqb-false,
-  ltb-true,
-  ltb-false,
-)
+pub ruleset accepted = (not-given, others-accept, not-first, not-second, told-not, not-true, not-false, eqb-true, eqb-false, ltb-true, ltb-false)
 
 -- ---- rows in two parts
 
@@ -124,8 +108,7 @@ refused-on (row ∷ rows) more why e = go (row .given) e (λ f. refused-on rows 
 pub accepted-on : (rows more : List Row) → verdict rows ≡ Accepted → verdict (rows ++ more) ≡ verdict more
 accepted-on [] more e = refl
 accepted-on (row ∷ rows) more e =
-    let given = row .given in
-    let why = row .why in
+    let given = row .given in let why = row .why in
     rw (not-given given why (verdict rows) e) (accepted-on rows more (others-accept given why (verdict rows) e))
 
 -- ---- what a call leaves

@@ -1,6 +1,5 @@
 -- Two answers that meet a promise are equal. Assumes nothing.
-use Prim.Native.Nat.{ℕ}
-use mathlib.Core.Path.{_≡_, sym, _∙_}
+use Rattle.sequences.proofs.Basics.{_≡_, sym, _∙_, ℕ}
 use Rattle.refusal.specs.Refusal.{Numbers, Places, NumbersIn, PlacesIn, Settles}
 use Rattle.refusal.specs.declared.Refusal.{Refusal}
 use Rattle.refusal.specs.declared.Verdict.{Verdict}

@@ -1,10 +1,6 @@
 -- What the schedule's stages leave of what is lent: its length, and remainders in blocks. Assumes nothing.
-use Prim.Native.Nat.{ℕ, zero, suc, _*_, _/_, _%_, _^_, _<_, _≤_}
-use native.Mathlib.Nat.{mod-lt, mod-eq-of-lt, div-add-mod', div-lt-iff-lt-mul, div-eq-of-eq-mul-left}
-use native.Mathlib.Omega.{arith}
-use mathlib.Core.Path.{_≡_, sym, ap, subst, _∙_}
-use mathlib.Core.List.{List}
-use lib.ListN.{length, drop}
+use Rattle.sequences.proofs.Basics.{_≡_, sym, ap, subst, _∙_, ℕ, zero, suc, _*_, _/_, _%_, _^_, _<_, _≤_, mod-lt, mod-eq-of-lt, div-add-mod', div-lt-iff-lt-mul}
+use Rattle.sequences.proofs.Basics.{div-eq-of-eq-mul-left, arith, List, length, drop}
 use Rattle.counts.specs.Counts.{radix, stride}
 use Rattle.radices.specs.Lists.{product}
 use Rattle.plan.specs.declared.Record.{Record}
@@ -54,4 +50,5 @@ module _ (p : Record) (m w : ℕ) (xs : List ℕ) (h : Lent p m w xs) where
   after-under j l q lq =
       let parts : p .half ≡ product (drop j (inUse p)) * stride (inUse p) j = use-product p (h .planned) ∙ stride-drop (inUse p) j in
       let some : 0 < stride (inUse p) j = pos-right (product (drop j (inUse p))) (stride (inUse p) j) (rw (← parts) (plan-half p (h .planned) .0)) in
-      blocks-under m w (p .half) (stride (inUse p) j) (product (drop j (inUse p))) (cells xs) (cells (after j)) positive some parts (after-blocks j l) q (rw (after-length j) at lq)
+      blocks-under m w (p .half) (stride (inUse p) j) (product (drop j (inUse p))) (cells xs)
+      (cells (after j)) positive some parts (after-blocks j l) q (rw (after-length j) at lq)

@@ -1,12 +1,5 @@
 -- An iteration with its radix written out: which radix it is, what its parts ask for, and what they leave. Assumes nothing.
-use Prim.Native.Nat.{ℕ, _+_, _*_, _/_, _<_, _≤_}
-use native.Mathlib.Omega.{arith}
-use native.Mathlib.Nat.{mul-div-left}
-use mathlib.Core.Path.{_≡_, refl, sym, ap, subst, _∙_}
-use mathlib.Core.Bool.{true}
-use mathlib.Core.List.{List}
-use mathlib.Core.Logic.{inl, inr}
-use lib.ListN.{getD}
+use Rattle.sequences.proofs.Basics.{_≡_, refl, sym, ap, subst, _∙_, ℕ, _+_, _*_, _/_, _<_, _≤_, mul-div-left, arith, true, inl, inr, List, getD}
 use Rattle.radices.specs.Lists.{isRadix}
 use Rattle.radices.proofs.Products.{Radix, radix-is, radix-least}
 use Rattle.schedule.specs.Parts.{Wrote}
@@ -38,7 +31,8 @@ steps-apart to s ps t u e =
     let same : t * s ≡ u * s = omega arith in
     sym (mul-div-left t ps) ∙ ap (λ (k : ℕ). k / s) same ∙ mul-div-left u ps
 
-module _ {m v M i to s r : ℕ} {turns src : List ℕ} {room : ℕ} (h : (isRadix r ≡ true) × Reading m v M i r src × Writing m to s r turns room) (k : ℕ) (e : r ≡ k) where
+module _ {m v M i to s r : ℕ} {turns src : List ℕ} {room : ℕ} (h : (isRadix r ≡ true) × Reading m v M i r src × Writing m to s r turns room) (k : ℕ)
+    (e : r ≡ k) where
   pub arm-reads : Reading m v M i k src
   arm-reads = subst (λ (n : ℕ). Reading m v M i n src) e (h .1)
 

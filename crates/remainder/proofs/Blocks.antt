@@ -1,12 +1,8 @@
 -- A run in remainders: after each stage the cells hold the block sums, and after the last the transform.
 -- Assumes nothing.
-use mathlib.Core.Path.{_≡_, refl, sym, _∙_}
-use mathlib.Core.List.{List}
-use Prim.Native.Nat.{ℕ, zero, suc, _+_, _*_, _/_, _%_, _^_, _≤_, _<_}
-use native.Mathlib.Nat.{zero-add, add-zero, zero-mul, one-mul, mul-zero, mul-one, pow-zero, le-of-lt, le-refl, div-one, div-self, mod-eq-of-lt, lt-of-lt-of-le, div-mul-le-self}
-use native.Mathlib.Omega.{arith}
-use lib.Arith.{digits-lt, lt-one}
-use lib.ListN.{length, drop}
+use Rattle.sequences.proofs.Basics.{_≡_, refl, sym, _∙_, ℕ, zero, suc, _+_, _*_, _/_, _%_, _^_, _≤_, _<_, zero-add, add-zero, zero-mul, one-mul, mul-zero}
+use Rattle.sequences.proofs.Basics.{mul-one, pow-zero, le-of-lt, le-refl, div-one, div-self, mod-eq-of-lt, lt-of-lt-of-le, div-mul-le-self, arith, List, length}
+use Rattle.sequences.proofs.Basics.{drop, digits-lt, lt-one}
 use Rattle.radices.specs.Lists.{product}
 use Rattle.counts.specs.Counts.{stride, radix}
 use Rattle.schedule.specs.Stage.{stageBy, stage, run, plain}
@@ -23,17 +19,14 @@ first-stride rs j e = rw e
 -- Remainders are their own block sums at stride 1.
 lone-blocks : (m w h : ℕ) (x : ℕ → ℕ) → ((j : ℕ) → j < h → x j < m) → Blocks m w h 1 x x
 unfolding blockSum sum
-lone-blocks m w h x below b k lb lk =
-    rw (lt-one lk) (simp (mul-zero, mul-one, zero-add, add-zero, pow-zero) (sym (mod-eq-of-lt (below b (rw div-one at lb)))))
+lone-blocks m w h x below b k lb lk = rw (lt-one lk) (simp (mul-zero, mul-one, zero-add, add-zero, pow-zero) (sym (mod-eq-of-lt (below b (rw div-one at lb)))))
 
 module _ (m w h : ℕ) (circle : w ^ h % m ≡ 1 % m) (rs : List ℕ) (whole : h ≡ product rs) where
   -- one stage of a list
   pub stage-list-blocks : (j : ℕ) → j < length rs → (x : ℕ → ℕ) (xs : List ℕ) → Blocks m w h (stride rs j) x (cells xs)
       → Blocks m w h (stride rs (suc j)) x (cells (stage plain (residues m w h) h rs j xs))
   unfolding stage stageBy residues
-  stage-list-blocks j l x xs before =
-      rw (stride-suc rs j l)
-      (λ b k lb lk.
+  stage-list-blocks j l x xs before = rw (stride-suc rs j l) (λ b k lb lk.
       getD-tabulate h 0 _ (b * (stride rs j * radix rs j) + k) 0 (lt-of-lt-of-le (digits-lt lb lk) (div-mul-le-self h (stride rs j * radix rs j)))
       ∙ rw zero-add (stage-blocks m w h (product (drop (suc j) rs)) rs j (whole ∙ stage-parts rs j l) circle (first-stride rs j) x (cells xs) before b k lb lk))
 
@@ -50,5 +43,6 @@ module _ (m w h : ℕ) (circle : w ^ h % m ≡ 1 % m) (rs : List ℕ) (whole : h
     run-transform k l =
         let end : stride rs (length rs) ≡ h = stride-length rs ∙ sym whole in
         let one : h / h ≡ 1 = div-self (omega arith) in
-        let all : Blocks m w h h (cells xs) (cells (run plain (residues m w h) h rs (length rs) xs)) = rw end at (run-blocks (length rs) (le-refl (length rs))) in
+        let all : Blocks m w h h (cells xs) (cells (run plain (residues m w h) h rs (length rs) xs)) =
+        rw end at (run-blocks (length rs) (le-refl (length rs))) in
         simp (zero-mul, zero-add, one, one-mul) at (all 0 k (rw one (omega arith)) l)

@@ -1,12 +1,7 @@
 -- How the code walks a stage's columns, and that it makes the stage. Assumes nothing.
-use Prim.Native.Nat.{ℕ, suc, _+_, _*_, _/_, _%_, _^_, _<_, _≤_}
-use native.Mathlib.Nat.{add-mod-right, add-div-right, mod-le, mod-lt, mul-div-left, mul-le-mul, mul-le-mul-right, suc-mul, div-add-mod', div-le-self, le-of-lt}
-use native.Mathlib.Decide.{ℕ-discrete, decLe}
-use native.Mathlib.Omega.{arith}
-use mathlib.Core.Path.{_≡_, sym, ap, _∙_}
-use mathlib.Core.List.{List}
-use lib.Arith.{digits-lt}
-use lib.ListN.{length, getD}
+use Rattle.sequences.proofs.Basics.{_≡_, sym, ap, _∙_, ℕ, suc, _+_, _*_, _/_, _%_, _^_, _<_, _≤_, add-mod-right, add-div-right, mod-le, mod-lt, mul-div-left}
+use Rattle.sequences.proofs.Basics.{mul-le-mul, mul-le-mul-right, suc-mul, div-add-mod', div-le-self, le-of-lt, arith, ℕ-discrete, decLe, List, length, getD}
+use Rattle.sequences.proofs.Basics.{digits-lt}
 use Rattle.counts.specs.Counts.{stride}
 use Rattle.plan.specs.declared.Record.{Record}
 use Rattle.plan.proofs.Bounds.{plan-half, plan-radix, plan-radix-bounds}
@@ -52,8 +47,7 @@ module _ (M s r : ℕ) (v : ℕ → ℕ → ℕ) (ps : 0 < s) where
   pub walked-next : (ys ys′ : List ℕ) (k i to : ℕ) (g : ℕ → ℕ) → i % s ≡ k → to ≡ i / s * (s * r) + k → ((p : ℕ) → p < r → g p ≡ v i p)
       → Spread (λ p. p < r) to s g ys ys′ → Walked M s r v ys k i → Walked M s r v ys′ k (i + s)
   unfolding index
-  walked-next ys ys′ k i to g ei et eg w =
-      done-iteration s r v ps i (λ i′ p (l, (a, b)) f. (l, (a, λ e. before s i i′ ps (e ∙ sym ei) (b e) f)))
+  walked-next ys ys′ k i to g ei et eg w = done-iteration s r v ps i (λ i′ p (l, (a, b)) f. (l, (a, λ e. before s i i′ ps (e ∙ sym ei) (b e) f)))
       (wrote-as (λ p l. (place p, eg p l)) w)
     where
       place : (p : ℕ) → to + p * s ≡ index s r i p
@@ -111,7 +105,8 @@ module _ {m M s r : ℕ} {turns src : List ℕ} {room : ℕ} (h : Staged m M s r
   -- outputs of column k
   pub made : (step v k i : ℕ) → v ≡ step ^ k % m → i % s ≡ k → (p : ℕ) → p < r → kernelOf m turns r (readOf m v M src i) p ≡ outputOf m step M s r src turns i p
   made step v k i e ei p lp =
-      column-output m step M s r src turns (h .blocks .some) (all-under m (omega (arith, h .modulus .two)) src (h .cells)) i p v (e ∙ ap (λ (n : ℕ). step ^ n % m) (sym ei))
+      column-output m step M s r src turns (h .blocks .some) (all-under m (omega (arith, h .modulus .two)) src (h .cells)) i p v (e
+      ∙ ap (λ (n : ℕ). step ^ n % m) (sym ei))
 
 -- ---- stage j of an accepted plan
 
@@ -148,11 +143,9 @@ module _ (p : Record) (j m w : ℕ) (src : List ℕ) (room : ℕ) (h : Workable 
       → Walked (p .half / r) s r (outputOf m step (p .half / r) s r src turns) dst s 0 → dst ≡ stageOf p j m w src
   unfolding residues
   work-done step root turns dst stepping rooted turned wide done =
-      let k = found-some p (h .planned) j (h .known) in
-      let ps = found-stride p (h .planned) j (h .known) in
+      let k = found-some p (h .planned) j (h .known) in let ps = found-stride p (h .planned) j (h .known) in
       found-stage p (h .planned) j (h .known) plain (residues m w (p .half)) src dst (wide ∙ h .wide) (λ i q l lq.
       done i q (l, (le-of-lt (mod-lt i ps), λ e. absurd (omega (arith, mod-lt i ps, e)))) lq
       ∙ lent-output m step (p .half / r) s r src turns k (all-under m (omega (arith, h .modulus .two)) src (h .cells)) i q w (p .half) j
       (plan-radix-bounds p (h .planned) j (h .known) .1) (λ z. ap (stride (p .radices)) z ∙ sym (stride-none (p .radices)))
-      (stepping ∙ ap (λ (t : ℕ). w ^ t % m) (found-blocks p (h .planned) j (h .known)))
-      (λ t lt. turned t lt ∙ power-power m w (p .half / r) root t rooted))
+      (stepping ∙ ap (λ (t : ℕ). w ^ t % m) (found-blocks p (h .planned) j (h .known))) (λ t lt. turned t lt ∙ power-power m w (p .half / r) root t rooted))

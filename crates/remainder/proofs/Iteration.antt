@@ -1,11 +1,7 @@
 -- What an iteration of the code reads and makes is what the schedule states. Assumes nothing.
-use Prim.Native.Nat.{ℕ, zero, suc, _+_, _-_, _*_, _/_, _%_, _^_, _<_, _≤_}
-use native.Mathlib.Nat.{add-mod, mod-mod, mul-zero, mul-one, mul-comm, add-zero, zero-mul, pow-zero, pow-suc, one-mul, mod-eq-of-lt, mod-lt, mul-le-mul}
-use native.Mathlib.Omega.{arith}
-use mathlib.Core.Path.{_≡_, refl, sym, ap, _∙_}
-use mathlib.Core.List.{List, [], _∷_}
-use lib.ListN.{length, getD}
-use lib.Pow.{pow-add}
+use Rattle.sequences.proofs.Basics.{_≡_, refl, sym, ap, _∙_, ℕ, zero, suc, _+_, _-_, _*_, _/_, _%_, _^_, _<_, _≤_, add-mod, mod-mod, mul-zero, mul-one}
+use Rattle.sequences.proofs.Basics.{mul-comm, add-zero, zero-mul, pow-zero, pow-suc, one-mul, mod-eq-of-lt, mod-lt, mul-le-mul, arith, List, [], _∷_, length}
+use Rattle.sequences.proofs.Basics.{getD, pow-add}
 use Rattle.schedule.specs.Stage.{twiddleTurn, kernelTurn, twiddledIn, read, total, output, plain}
 use Rattle.schedule.proofs.Sums.{total-next, plain-same}
 use Rattle.remainder.specs.Parts.{lentBy, kernelOf, readOf, outputOf}
@@ -18,26 +14,19 @@ use Rattle.remainder.proofs.Step.{read-turned}
 
 pub pow-reduced : (a m q : ℕ) → (a % m) ^ q % m ≡ a ^ q % m
 pow-reduced a m zero = ap (λ (n : ℕ). n % m) (pow-zero (a % m) ∙ sym (pow-zero a))
-pow-reduced a m (suc q) =
-    ap (λ (n : ℕ). n % m) (pow-suc (a % m) q)
-    ∙ mul-mod ((a % m) ^ q) a m
-    ∙ sym (mod-mul m ((a % m) ^ q) a)
-    ∙ ap (λ (n : ℕ). n * a % m) (pow-reduced a m q)
-    ∙ mod-mul m (a ^ q) a
-    ∙ ap (λ (n : ℕ). n % m) (sym (pow-suc a q))
+pow-reduced a m (suc q) = ap (λ (n : ℕ). n % m) (pow-suc (a % m) q) ∙ mul-mod ((a % m) ^ q) a m ∙ sym (mod-mul m ((a % m) ^ q) a)
+    ∙ ap (λ (n : ℕ). n * a % m) (pow-reduced a m q) ∙ mod-mul m (a ^ q) a ∙ ap (λ (n : ℕ). n % m) (sym (pow-suc a q))
 
 pub pow-times : (w a q : ℕ) → w ^ (a * q) ≡ (w ^ a) ^ q
 pow-times w a zero = ap (λ (n : ℕ). w ^ n) (mul-zero a) ∙ pow-zero w ∙ sym (pow-zero (w ^ a))
 pow-times w a (suc q) =
-    ap (λ (n : ℕ). w ^ n) {x = a * suc q} {y = a * q + a} (omega arith) ∙ pow-add w (a * q) a ∙ ap (λ (n : ℕ). n * w ^ a) (pow-times w a q) ∙ sym (pow-suc (w ^ a) q)
+    ap (λ (n : ℕ). w ^ n) {x = a * suc q} {y = a * q + a} (omega arith) ∙ pow-add w (a * q) a ∙ ap (λ (n : ℕ). n * w ^ a) (pow-times w a q)
+    ∙ sym (pow-suc (w ^ a) q)
 
 -- a product with a reduced power of a reduced power
 pub power-product : (m w a q x v : ℕ) → v ≡ w ^ a % m → x * v ^ q % m ≡ x * w ^ (a * q) % m
-power-product m w a q x v e =
-    ap (λ (n : ℕ). x * n ^ q % m) e
-    ∙ sym (mul-mod x ((w ^ a % m) ^ q) m)
-    ∙ ap (λ (n : ℕ). x * n % m) (pow-reduced (w ^ a) m q ∙ ap (λ (n : ℕ). n % m) (sym (pow-times w a q)))
-    ∙ mul-mod x (w ^ (a * q)) m
+power-product m w a q x v e = ap (λ (n : ℕ). x * n ^ q % m) e ∙ sym (mul-mod x ((w ^ a % m) ^ q) m)
+    ∙ ap (λ (n : ℕ). x * n % m) (pow-reduced (w ^ a) m q ∙ ap (λ (n : ℕ). n % m) (sym (pow-times w a q))) ∙ mul-mod x (w ^ (a * q)) m
 
 -- a power of a reduced power
 pub power-power : (m w a v t : ℕ) → v ≡ w ^ a % m → v ^ t % m ≡ w ^ (a * t) % m
@@ -87,7 +76,8 @@ term-next m r p q x turns acc l e = reduced ∙ next
     next = total-next (lentBy m 1 turns) r (cells x) p q acc l e
 
 -- a kernel rests on the cells that it takes in
-pub kernel-same : (m : ℕ) (turns : List ℕ) (r : ℕ) (x y : ℕ → ℕ) → 0 < r → ((q : ℕ) → q < r → x q ≡ y q) → (p : ℕ) → kernelOf m turns r x p ≡ kernelOf m turns r y p
+pub kernel-same : (m : ℕ) (turns : List ℕ) (r : ℕ) (x y : ℕ → ℕ) → 0 < r → ((q : ℕ) → q < r → x q ≡ y q) → (p : ℕ)
+    → kernelOf m turns r x p ≡ kernelOf m turns r y p
 kernel-same m turns r x y some e p = plain-same (lentBy m 1 turns) (lentBy m 1 turns) (λ u v. refl) r x y p some (λ q l. (e q l, λ z. refl))
 
 module _ (m step M s r : ℕ) (src turns : List ℕ) (some : 0 < r) (under : (k : ℕ) → cells src k < m) (i p : ℕ) where
@@ -104,20 +94,16 @@ module _ (m step M s r : ℕ) (src turns : List ℕ) (some : 0 < r) (under : (k 
   pub lent-output : (w h j : ℕ) → r ≤ 8 → (j ≡ 0 → s ≡ 1) → step ≡ w ^ (h / (s * r)) % m → ((t : ℕ) → t < 8 → getD turns t 0 ≡ w ^ (h / r * t) % m)
       → outputOf m step M s r src turns i p ≡ output plain (residues m w h) j M s r (cells src) i p
   unfolding output lentBy residues read twiddledIn twiddleTurn turn kernelTurn
-  lent-output w h j few first stepping turned =
-      plain-same (lentBy m step turns) (residues m w h) (λ u v. refl) r _ _ p some (λ q l. (each q, by-turn q l))
+  lent-output w h j few first stepping turned = plain-same (lentBy m step turns) (residues m w h) (λ u v. refl) r _ _ p some (λ q l. (each q, by-turn q l))
     where
       each : (q : ℕ) → read (lentBy m step turns) 1 M s r (cells src) i q ≡ read (residues m w h) j M s r (cells src) i q
       each zero = refl
       each (suc q) =
           let x = cells src (i + suc q * M) in
-          power-product m w (h / (s * r)) (i % s * suc q) x step stepping
-          ∙ ap (λ (n : ℕ). x * w ^ n % m) (mul-comm (h / (s * r)) (i % s * suc q))
+          power-product m w (h / (s * r)) (i % s * suc q) x step stepping ∙ ap (λ (n : ℕ). x * w ^ n % m) (mul-comm (h / (s * r)) (i % s * suc q))
           ∙ sym (read-turned m w h j M s r (cells src) i (suc q) (sym (mod-eq-of-lt (under (i + suc q * M)))) first)
 
       by-turn : (q : ℕ) → q < r → (z : ℕ) → z * getD turns (p * q % r) 0 % m ≡ turn m w h (kernelTurn p q r) z
       by-turn q l z =
           let t = p * q % r in
-          ap (λ (n : ℕ). z * n % m) (turned t (turn-lt p q r l few))
-          ∙ mul-mod z (w ^ (h / r * t)) m
-          ∙ ap (λ (n : ℕ). z * w ^ n % m) (mul-comm (h / r) t)
+          ap (λ (n : ℕ). z * n % m) (turned t (turn-lt p q r l few)) ∙ mul-mod z (w ^ (h / r * t)) m ∙ ap (λ (n : ℕ). z * w ^ n % m) (mul-comm (h / r) t)

@@ -1,14 +1,7 @@
 -- Powers modulo m: by halving the exponent, and step by step. Assumes nothing.
-use Prim.Native.Nat.{ℕ, suc, _+_, _*_, _/_, _%_, _^_, _<_, _≤_, _-_, zero}
-use native.Mathlib.Nat.{mul-assoc, mul-comm, mul-right-comm, mod-lt, pow-zero, pow-suc, mod-eq-of-lt, mul-le-mul}
-use native.Mathlib.Numerals.{add-one}
-use native.Mathlib.Omega.{arith}
-use native.Mathlib.Decide.{ℕ-discrete}
-use mathlib.Core.List.{List}
-use lib.ListN.{length, getD, set}
-use lib.Seq.{getD-set-same, getD-set-other}
-use mathlib.Core.Path.{_≡_, sym, ap, _∙_, subst}
-use lib.Pow.{pow-add}
+use Rattle.sequences.proofs.Basics.{_≡_, sym, ap, _∙_, subst, ℕ, suc, _+_, _*_, _/_, _%_, _^_, _<_, _≤_, _-_, zero, mul-assoc, mul-comm, mul-right-comm, mod-lt}
+use Rattle.sequences.proofs.Basics.{pow-zero, pow-suc, mod-eq-of-lt, mul-le-mul, add-one, arith, ℕ-discrete, List, length, getD, set, getD-set-same}
+use Rattle.sequences.proofs.Basics.{getD-set-other, pow-add}
 use Rattle.remainder.proofs.Sums.{mod-mul}
 
 pub mul-mod : (a b m : ℕ) → a * (b % m) % m ≡ a * b % m
@@ -33,13 +26,10 @@ even-step w e m h p q =
 pub odd-step : (w e m h : ℕ) → (e % 2 ≡ 0 → ⊥) → h ≡ w ^ (e / 2) % m → h * h % m * w % m ≡ w ^ e % m
 odd-step w e m h p q =
     let x = w ^ (e / 2) in
-    mod-mul m (h * h) w
-    ∙ ap (λ (y : ℕ). y * y * w % m) q
-    ∙ ap (λ (y : ℕ). y % m) (mul-assoc (x % m) (x % m) w)
-    ∙ mod-mul m x (x % m * w)
-    ∙ ap (λ (y : ℕ). y % m) (sym (mul-assoc x (x % m) w) ∙ mul-right-comm x (x % m) w)
-    ∙ mul-mod (x * w) x m
-    ∙ ap (λ (y : ℕ). y % m) (mul-right-comm x w x ∙ ap (λ (y : ℕ). y * w) (sym (pow-add w (e / 2) (e / 2))) ∙ sym (pow-suc w (e / 2 + e / 2)) ∙ ap (λ (y : ℕ). w ^ y) (sym (halves-odd e p)))
+    mod-mul m (h * h) w ∙ ap (λ (y : ℕ). y * y * w % m) q ∙ ap (λ (y : ℕ). y % m) (mul-assoc (x % m) (x % m) w) ∙ mod-mul m x (x % m * w)
+    ∙ ap (λ (y : ℕ). y % m) (sym (mul-assoc x (x % m) w) ∙ mul-right-comm x (x % m) w) ∙ mul-mod (x * w) x m
+    ∙ ap (λ (y : ℕ). y % m) (mul-right-comm x w x ∙ ap (λ (y : ℕ). y * w) (sym (pow-add w (e / 2) (e / 2))) ∙ sym (pow-suc w (e / 2 + e / 2))
+    ∙ ap (λ (y : ℕ). w ^ y) (sym (halves-odd e p)))
 
 -- a product of two numbers below 2 ^ 32 fits
 pub product-fits : (a b m : ℕ) → a < m → b < m → m < 4294967296 → a * b < 2 ^ 64
@@ -60,8 +50,7 @@ sum-fits m s a b h p q r =
     omega arith
 
 pub next-power : (v m t : ℕ) (x : ℕ) → x ≡ v ^ t % m → x * v % m ≡ v ^ (t + 1) % m
-next-power v m t x e =
-    ap (λ (y : ℕ). y * v % m) e ∙ mod-mul m (v ^ t) v ∙ ap (λ (y : ℕ). y % m) (sym (pow-suc v t) ∙ ap (λ (n : ℕ). v ^ n) (sym (add-one t)))
+next-power v m t x e = ap (λ (y : ℕ). y * v % m) e ∙ mod-mul m (v ^ t) v ∙ ap (λ (y : ℕ). y % m) (sym (pow-suc v t) ∙ ap (λ (n : ℕ). v ^ n) (sym (add-one t)))
 
 -- the powers from 0 on, in an array of which t are known
 abbrev pub Known : (m v : ℕ) → List ℕ → ℕ → Type 0
@@ -79,8 +68,6 @@ module _ (m v : ℕ) (two : 1 < m) where
       y = getD xs (t - 1) 0 * v % m
 
       pick : Dec (k ≡ t) → getD (set xs t y) k 0 ≡ v ^ k % m
-      pick (yes e) =
-          rw e
-          (getD-set-same xs t y 0 l ∙ next-power v m (t - 1) (getD xs (t - 1) 0) (f (t - 1) (omega arith))
+      pick (yes e) = rw e (getD-set-same xs t y 0 l ∙ next-power v m (t - 1) (getD xs (t - 1) 0) (f (t - 1) (omega arith))
           ∙ ap (λ (n : ℕ). v ^ n % m) {x = t - 1 + 1} {y = t} (omega arith))
       pick (no e) = getD-set-other xs t k y 0 e ∙ f k (omega arith)

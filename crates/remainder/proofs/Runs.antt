@@ -1,12 +1,5 @@
 -- Laws of a run: its stages find what they ask for, and leave what the definition states. Assumes nothing.
-use Prim.Native.Nat.{ℕ, _%_, _<_}
-use native.Mathlib.Nat.{le-of-lt}
-use mathlib.Core.Path.{_≡_, sym, ap, subst, _∙_}
-use mathlib.Core.Bool.{Bool, true, false}
-use mathlib.Core.List.{List}
-use lib.Dec.{eqb}
-use lib.ListN.{length}
-use borrow.Author.Tests.{eq-eqb, ne-eqb, eqb-true}
+use Rattle.sequences.proofs.Basics.{_≡_, sym, ap, subst, _∙_, ℕ, _%_, _<_, le-of-lt, Bool, true, false, List, eqb, length, eq-eqb, ne-eqb, eqb-true}
 use Rattle.counts.specs.Counts.{radix, stride, resultIn}
 use Rattle.plan.specs.Record.{isPlanned}
 use Rattle.plan.specs.declared.Record.{Record}
@@ -74,5 +67,6 @@ module _ (p : Record) (m w : ℕ) (b : Two ℕ) where
 pub held-after : (p : Record) (m w : ℕ) (xs ys : List ℕ) (h : Lent p m w xs) → heldIn (resultIn (p .count)) (runOf p m w (xs, ys)) ≡ after p m w xs h (p .count)
 unfolding driven resultIn
 held-after p m w xs ys h =
-    held (eqb (p .count) 1) (eqb (p .count % 2) 0) (alternated (λ j. stageOf p j m w) (p .count) (xs, ys)) (λ e. ap (λ (n : ℕ). eqb (n % 2) 0) (eqb-true (p .count) 1 e))
+    held (eqb (p .count) 1) (eqb (p .count % 2) 0) (alternated (λ j. stageOf p j m w) (p .count) (xs, ys))
+    (λ e. ap (λ (n : ℕ). eqb (n % 2) 0) (eqb-true (p .count) 1 e))
     ∙ source-run plain (residues m w (p .half)) (p .half) (inUse p) (xs, ys) (p .count)

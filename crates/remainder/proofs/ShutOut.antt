@@ -1,10 +1,5 @@
 -- Wrong programs that the promises shut out, at h 6, m 7, w 3 and the samples 0, 1, 0, 0, 0, 0. Assumes nothing.
-use Prim.Native.Nat.{ℕ, zero, suc, _<_}
-use native.Mathlib.Omega.{arith}
-use mathlib.Core.Path.{_≡_, refl, subst, _∙_}
-use mathlib.Core.Bool.{true}
-use mathlib.Core.List.{List, [], _∷_}
-use lib.ListN.{length}
+use Rattle.sequences.proofs.Basics.{_≡_, refl, subst, _∙_, ℕ, zero, suc, _<_, arith, true, List, [], _∷_, length}
 use Rattle.refusal.specs.declared.Verdict.{Verdict}
 use Rattle.counts.specs.Counts.{stride, resultIn}
 use Rattle.radices.specs.Lists.{product, padded, eqList, countOf}
@@ -70,6 +65,7 @@ second-stride = refl
 pub whole-at-once : (other : List ℕ) → length other ≡ 6 → (r : Verdict) → Stages twelve 0 7 3 pulse other r spectrum → ⊥
 whole-at-once other e r s =
     let chain : Chain twelve 7 3 1 pulse spectrum = (pulse, (other, (r, (refl, (e, s))))) in
-    let blocks = subst (λ (n : ℕ). Blocks 7 3 6 n (cells pulse) (cells spectrum)) second-stride (chain-blocks twelve 7 3 pulse lent 1 (omega arith) spectrum chain) in
+    let blocks = subst (λ (n : ℕ). Blocks 7 3 6 n (cells pulse) (cells spectrum)) second-stride
+    (chain-blocks twelve 7 3 pulse lent 1 (omega arith) spectrum chain) in
     let cell : 1 ≡ blockSum 7 3 6 2 (cells pulse) 0 0 = blocks 0 0 (omega arith) (omega arith) in
     absurd (omega (arith, cell ∙ first-block))

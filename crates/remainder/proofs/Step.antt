@@ -1,12 +1,8 @@
 -- One stage in remainders takes the block sums of stride s to those of stride s * r.
 -- Assumes nothing.
-use mathlib.Core.Path.{_≡_, refl, sym, ap, _∙_}
-use mathlib.Core.List.{List}
-use Prim.Native.Nat.{ℕ, zero, suc, _+_, _-_, _*_, _/_, _%_, _^_, _<_}
-use native.Mathlib.Nat.{add-mod, mod-mod, zero-mod, zero-add, add-zero, zero-mul, mul-zero, mul-one, mul-assoc, pow-zero, le-of-lt, mod-lt, mod-one, div-add-mod'}
-use native.Mathlib.Omega.{arith}
-use lib.Arith.{digits-mod, digits-lt}
-use lib.Pow.{pow-add}
+use Rattle.sequences.proofs.Basics.{_≡_, refl, sym, ap, _∙_, ℕ, zero, suc, _+_, _-_, _*_, _/_, _%_, _^_, _<_, add-mod, mod-mod, zero-mod, zero-add, add-zero}
+use Rattle.sequences.proofs.Basics.{zero-mul, mul-zero, mul-one, mul-assoc, pow-zero, le-of-lt, mod-lt, mod-one, div-add-mod', arith, List, pow-add, digits-mod}
+use Rattle.sequences.proofs.Basics.{digits-lt}
 use Rattle.counts.specs.Counts.{radix, stride}
 use Rattle.schedule.specs.Stage.{Part, twiddleTurn, kernelTurn, twiddledIn, read, total, plain, output, iteration, place}
 use Rattle.remainder.specs.Residues.{turn, residues, sum, blockSum, Blocks}
@@ -19,14 +15,11 @@ unfolding turn
 turn-none m w h L x l = simp (zero-mul, pow-zero, mul-one) (sym l)
 
 -- an output is the sum of its terms
-total-sum : (m w h r : ℕ) (x g : ℕ → ℕ) (p : ℕ)
-    → ((q : ℕ) → q < r → turn m w h (kernelTurn p q r) (x q) ≡ g q % m) → x 0 ≡ x 0 % m
+total-sum : (m w h r : ℕ) (x g : ℕ → ℕ) (p : ℕ) → ((q : ℕ) → q < r → turn m w h (kernelTurn p q r) (x q) ≡ g q % m) → x 0 ≡ x 0 % m
     → (q : ℕ) → q < r → total (residues m w h) r x p q ≡ sum (suc q) g % m
 unfolding total residues sum kernelTurn
-total-sum m w h r x g p term reduced zero l =
-    sym (turn-none m w h r (x 0) reduced) ∙ simp (mul-zero, zero-mod) at (term zero l) ∙ rw zero-add
-total-sum m w h r x g p term reduced (suc q) l =
-    rw (total-sum m w h r x g p term reduced q (le-of-lt l), term (suc q) l) (sym (add-mod _ _ m))
+total-sum m w h r x g p term reduced zero l = sym (turn-none m w h r (x 0) reduced) ∙ simp (mul-zero, zero-mod) at (term zero l) ∙ rw zero-add
+total-sum m w h r x g p term reduced (suc q) l = rw (total-sum m w h r x g p term reduced q (le-of-lt l), term (suc q) l) (sym (add-mod _ _ m))
 
 first-cell : (m w h M : ℕ) (c : ℕ → ℕ) (i L : ℕ) → c (i + 0 * M) ≡ c (i + 0 * M) % m → turn m w h (record { t = 0; L = L }) (c (i + 0 * M)) ≡ c i
 first-cell m w h M c i L e = turn-none m w h L (c (i + 0 * M)) e ∙ ap c (rw zero-mul (add-zero i))
@@ -45,13 +38,10 @@ turn-reduced m w h a x = sym (mod-mod _ m)
 
 module _ (m w h n s r : ℕ) (parts : h ≡ n * (s * r)) (circle : w ^ h % m ≡ 1 % m) (x : ℕ → ℕ) where
   -- The exponents of a term add up, but for whole circles.
-  exponents : (k q u : ℕ)
-      → n * (u * r + q) * k ≡ n * r * u * (k % s) + (k % s * q * n + k / s * q % r * (n * s)) + h * (k / s * q / r + u * (k / s))
-  exponents k q u =
-      rw parts (omega (arith, ap (λ (y : ℕ). n * (u * r + q) * y) (div-add-mod' k s), ap (λ (y : ℕ). y * (n * s)) (div-add-mod' (k / s * q) r)))
+  exponents : (k q u : ℕ) → n * (u * r + q) * k ≡ n * r * u * (k % s) + (k % s * q * n + k / s * q % r * (n * s)) + h * (k / s * q / r + u * (k / s))
+  exponents k q u = rw parts (omega (arith, ap (λ (y : ℕ). n * (u * r + q) * y) (div-add-mod' k s), ap (λ (y : ℕ). y * (n * s)) (div-add-mod' (k / s * q) r)))
 
-  one-term : (b k q u : ℕ)
-      → x (b + q * n + n * r * u) * w ^ (n * r * u * (k % s)) * w ^ (k % s * q * n + k / s * q % r * (n * s)) % m
+  one-term : (b k q u : ℕ) → x (b + q * n + n * r * u) * w ^ (n * r * u * (k % s)) * w ^ (k % s * q * n + k / s * q % r * (n * s)) % m
       ≡ x (b + n * (u * r + q)) * w ^ (n * (u * r + q) * k) % m
   one-term b k q u =
       let same : b + n * (u * r + q) ≡ b + q * n + n * r * u = omega arith in
@@ -75,36 +65,30 @@ module _ (m w h n s r : ℕ) (parts : h ≡ n * (s * r)) (circle : w ^ h % m ≡
     cell-reduced : (q : ℕ) → q < r → c (b * s + k % s + q * (h / r)) ≡ c (b * s + k % s + q * (h / r)) % m
     cell-reduced q lq = rw (cell q lq) (sym (mod-mod _ m))
 
-    term : (q : ℕ) → q < r
-        → turn m w h (kernelTurn (k / s) q r) (turn m w h (twiddleTurn s r (b * s + k % s) q) (c (b * s + k % s + q * (h / r))))
+    term : (q : ℕ) → q < r → turn m w h (kernelTurn (k / s) q r) (turn m w h (twiddleTurn s r (b * s + k % s) q) (c (b * s + k % s + q * (h / r))))
         ≡ sum s (λ u. x (b + n * (u * r + q)) * w ^ (n * (u * r + q) * k)) % m
     unfolding turn kernelTurn twiddleTurn
     term q lq = rw (cell q lq, digits-mod b (mod-lt k ps), by-both h n s r parts ps pr, by-radix h n s r parts ps pr) (turned-sum b k q)
 
 -- One stage: the block sums at the stride before it become those at the stride after it.
-module _ (m w h n : ℕ) (rs : List ℕ) (j : ℕ) (parts : h ≡ n * (stride rs j * radix rs j)) (circle : w ^ h % m ≡ 1 % m) (first : j ≡ 0 → stride rs j ≡ 1) (x : ℕ → ℕ) where
+module _ (m w h n : ℕ) (rs : List ℕ) (j : ℕ) (parts : h ≡ n * (stride rs j * radix rs j)) (circle : w ^ h % m ≡ 1 % m) (first : j ≡ 0 → stride rs j ≡ 1)
+    (x : ℕ → ℕ) where
   output-block : 0 < stride rs j → 0 < radix rs j → (c : ℕ → ℕ) → Blocks m w h (stride rs j) x c → (b k : ℕ) → b < n
       → output plain (residues m w h) j (h / radix rs j) (stride rs j) (radix rs j) c (b * stride rs j + k % stride rs j) (k / stride rs j)
       ≡ blockSum m w h (stride rs j * radix rs j) x b k
   unfolding blockSum output plain
   output-block ps pr c before b k lb =
-      let s = stride rs j in
-      let r = radix rs j in
-      let all : suc (r - 1) ≡ r = omega arith in
-      let i = b * s + k % s in
+      let s = stride rs j in let r = radix rs j in let all : suc (r - 1) ≡ r = omega arith in let i = b * s + k % s in
       let turned : (q : ℕ) → q < r → read (residues m w h) j (h / r) s r c i q ≡ turn m w h (twiddleTurn s r i q) (c (i + q * (h / r)))
       = λ q lq. read-turned m w h j (h / r) s r c i q (cell-reduced m w h n s r parts circle x ps pr c before b k lb q lq) first in
       total-sum m w h r (read (residues m w h) j (h / r) s r c i) (λ q. sum s (λ u. x (b + n * (u * r + q)) * w ^ (n * (u * r + q) * k))) (k / s)
-      (λ q lq. rw (turned q lq) (term m w h n s r parts circle x ps pr c before b k lb q lq))
-      (rw (turned 0 pr) (turn-reduced m w h _ _)) (r - 1) (omega arith)
+      (λ q lq. rw (turned q lq) (term m w h n s r parts circle x ps pr c before b k lb q lq)) (rw (turned 0 pr) (turn-reduced m w h _ _)) (r - 1) (omega arith)
       ∙ rw (all, sum-digits, by-both h n s r parts ps pr)
 
-  pub stage-blocks : (c : ℕ → ℕ) → Blocks m w h (stride rs j) x c
-      → Blocks m w h (stride rs j * radix rs j) x
-      (λ k. output plain (residues m w h) j (h / radix rs j) (stride rs j) (radix rs j) c (iteration (stride rs j) (radix rs j) k) (place (stride rs j) (radix rs j) k))
+  pub stage-blocks : (c : ℕ → ℕ) → Blocks m w h (stride rs j) x c → Blocks m w h (stride rs j * radix rs j) x
+      (λ k. output plain (residues m w h) j (h / radix rs j) (stride rs j) (radix rs j) c (iteration (stride rs j) (radix rs j) k)
+      (place (stride rs j) (radix rs j) k))
   stage-blocks c before b k lb lk =
-      let s = stride rs j in
-      let r = radix rs j in
-      let ps = pos-left s r (omega arith) in
+      let s = stride rs j in let r = radix rs j in let ps = pos-left s r (omega arith) in
       let pr = pos-right s r (omega arith) in
       rw (iteration-block s r b k lk, place-block s r b k lk) (output-block ps pr c before b k (rw (by-both h n s r parts ps pr) at lb))

@@ -1,18 +1,13 @@
 -- Sums of numbers, and their remainders. `a % m ≡ b % m` says that a and b are congruent modulo m; modulo 0 that is equality.
 -- Assumes nothing.
-use mathlib.Core.Path.{_≡_, refl, sym, ap, _∙_}
-use Prim.Native.Nat.{ℕ, zero, suc, _+_, _*_, _/_, _%_, _^_, _<_}
-use native.Mathlib.Nat.{add-mod, add-zero, add-suc, zero-mul, add-mul, suc-mul, mul-comm, mul-one, mul-zero, le-refl, le-step, add-mul-mod-self-right, div-add-mod'}
-use native.Mathlib.Omega.{arith}
-use lib.Pow.{pow-add}
+use Rattle.sequences.proofs.Basics.{_≡_, refl, sym, ap, _∙_, ℕ, zero, suc, _+_, _*_, _/_, _%_, _^_, _<_, add-mod, add-zero, add-suc, zero-mul, add-mul, suc-mul}
+use Rattle.sequences.proofs.Basics.{mul-comm, mul-one, mul-zero, le-refl, le-step, add-mul-mod-self-right, div-add-mod', arith, pow-add}
 use Rattle.remainder.specs.Residues.{sum}
 
 module _ (m : ℕ) where
   -- a factor may be reduced first
   pub mod-mul : (a c : ℕ) → a % m * c % m ≡ a * c % m
-  mod-mul a c =
-      sym (add-mul-mod-self-right (a % m * c) (a / m * c) m)
-      ∙ ap (λ (n : ℕ). n % m) (omega (arith, ap (λ (n : ℕ). n * c) (div-add-mod' a m)))
+  mod-mul a c = sym (add-mul-mod-self-right (a % m * c) (a / m * c) m) ∙ ap (λ (n : ℕ). n % m) (omega (arith, ap (λ (n : ℕ). n * c) (div-add-mod' a m)))
 
   pub mul-congruent : (c a b : ℕ) → a % m ≡ b % m → c * a % m ≡ c * b % m
   mul-congruent c a b p = rw (mul-comm c a, mul-comm c b, ← mod-mul a c, ← mod-mul b c, p)
@@ -20,15 +15,13 @@ module _ (m : ℕ) where
   -- whole circles do not count
   pub pow-circles : (w h : ℕ) → w ^ h % m ≡ 1 % m → (e t : ℕ) → w ^ (e + h * t) % m ≡ w ^ e % m
   pow-circles w h p e zero = simp (mul-zero, add-zero)
-  pow-circles w h p e (suc t) =
-      ap (λ (n : ℕ). w ^ n % m) (omega arith) ∙ ap (λ (n : ℕ). n % m) (pow-add w (e + h * t) h)
+  pow-circles w h p e (suc t) = ap (λ (n : ℕ). w ^ n % m) (omega arith) ∙ ap (λ (n : ℕ). n % m) (pow-add w (e + h * t) h)
       ∙ mul-congruent (w ^ (e + h * t)) (w ^ h) 1 p ∙ rw mul-one (pow-circles w h p e t)
 
   pub sum-congruent : (n : ℕ) (f g : ℕ → ℕ) → ((u : ℕ) → u < n → f u % m ≡ g u % m) → sum n f % m ≡ sum n g % m
   unfolding sum
   sum-congruent zero f g h = refl
-  sum-congruent (suc n) f g h =
-      rw (add-mod (sum n f) (f n) m, add-mod (sum n g) (g n) m, sum-congruent n f g (λ u l. h u (le-step l)), h n (le-refl (suc n)))
+  sum-congruent (suc n) f g h = rw (add-mod (sum n f) (f n) m, add-mod (sum n g) (g n) m, sum-congruent n f g (λ u l. h u (le-step l)), h n (le-refl (suc n)))
 
 pub sum-mul : (n : ℕ) (f : ℕ → ℕ) (c : ℕ) → sum n f * c ≡ sum n (λ u. f u * c)
 unfolding sum

@@ -1,13 +1,7 @@
 -- What the promises of the calls give: each stage call of a chain is accepted, after it every block holds the shorter sum, and after the
 -- last the cells hold the discrete Fourier transform in remainders; the same of the buffer with the result after a run, which leaves in
 -- both buffers what the calls, written alternately, leave there. The premise `Lent` asks for no more than the calls do. Assumes nothing.
-use Prim.Native.Nat.{ℕ, zero, suc, _%_, _<_, _≤_}
-use native.Mathlib.Nat.{le-of-lt, le-refl}
-use mathlib.Core.Path.{_≡_, refl, sym, ap, ap₂, _∙_}
-use mathlib.Core.Bool.{Bool, true, false}
-use mathlib.Core.List.{List}
-use lib.Dec.{eqb}
-use lib.ListN.{length}
+use Rattle.sequences.proofs.Basics.{_≡_, refl, sym, ap, ap₂, _∙_, ℕ, zero, suc, _%_, _<_, _≤_, le-of-lt, le-refl, Bool, true, false, List, eqb, length}
 use Rattle.refusal.specs.declared.Verdict.{Verdict}
 use Rattle.refusal.specs.declared.Verdict.the-variants.{Accepted}
 use Rattle.refusal.proofs.Rows.{settled}
@@ -28,9 +22,9 @@ use Rattle.remainder.proofs.Runs.{both-lengths, held-after, run-lent}
 module _ (p : Record) (m w : ℕ) (xs : List ℕ) (h : Lent p m w xs) where
   -- what the stages before it wrote is accepted
   each-accepted : (j : ℕ) → j < p .count → stageVerdict p j m w (after p m w xs h j) (p .half) ≡ Accepted
-  each-accepted j l =
-      sym (stage-lent p j m w (after p m w xs h j) (p .half) (h .planned) l)
-      ∙ sym (all-taken (p .half) m w (after p m w xs h j) (p .half) (h .modulus) (h .base) (h .circle) (after-length p m w xs h j) refl _ refl (none-refused m (after p m w xs h j) (after-under p m w xs h j (le-of-lt l))))
+  each-accepted j l = sym (stage-lent p j m w (after p m w xs h j) (p .half) (h .planned) l)
+      ∙ sym (all-taken (p .half) m w (after p m w xs h j) (p .half) (h .modulus) (h .base) (h .circle)
+      (after-length p m w xs h j) refl _ refl (none-refused m (after p m w xs h j) (after-under p m w xs h j (le-of-lt l))))
 
   -- so a chain of calls leaves what the schedule states
   pub chain-after : (j : ℕ) → j ≤ p .count → (zs : List ℕ) → Chain p m w j xs zs → zs ≡ run plain (residues m w (p .half)) (p .half) (inUse p) j xs
@@ -42,7 +36,8 @@ module _ (p : Record) (m w : ℕ) (xs : List ℕ) (h : Lent p m w xs) where
       settled _ _ _ _ _ s taken ∙ ap (stageOf p j m w) same
 
   -- each call of a chain is accepted
-  pub call-accepted : (j : ℕ) → j < p .count → (ys old zs : List ℕ) (r : Verdict) → Chain p m w j xs ys → length old ≡ p .half → Stages p j m w ys old r zs → r ≡ Accepted
+  pub call-accepted : (j : ℕ) → j < p .count → (ys old zs : List ℕ) (r : Verdict) → Chain p m w j xs ys → length old ≡ p .half → Stages p j m w ys old r zs
+      → r ≡ Accepted
   call-accepted j l ys old zs r c e s = s .answer ∙ ap₂ (stageVerdict p j m w) (chain-after j (le-of-lt l) ys c) e ∙ each-accepted j l
 
   -- after stage calls 0 to j - 1 every block holds the shorter sum
@@ -51,14 +46,12 @@ module _ (p : Record) (m w : ℕ) (xs : List ℕ) (h : Lent p m w xs) where
 
   -- after the last, cell k holds the remainder of the sum of x(j) * w^(jk)
   pub chain-transform : (zs : List ℕ) → Chain p m w (p .count) xs zs → (k : ℕ) → k < p .half → cells zs k ≡ transform m w (p .half) (cells xs) k
-  chain-transform zs c k l =
-      ap (λ (ys : List ℕ). cells ys k) (chain-after (p .count) (le-refl (p .count)) zs c)
+  chain-transform zs c k l = ap (λ (ys : List ℕ). cells ys k) (chain-after (p .count) (le-refl (p .count)) zs c)
       ∙ ap (λ (n : ℕ). cells (after p m w xs h n) k) (sym (use-length p (h .planned)))
       ∙ run-transform m w (p .half) (circle p m w xs h) (inUse p) (use-product p (h .planned)) xs (all p m w xs h) k l
 
   run-taken : (ys : List ℕ) → length ys ≡ p .half → runVerdict p m w xs (length ys) ≡ Accepted
-  run-taken ys e =
-      sym (run-lent p m w (xs, ys) (h .planned))
+  run-taken ys e = sym (run-lent p m w (xs, ys) (h .planned))
       ∙ sym (all-taken (p .half) m w xs (length ys) (h .modulus) (h .base) (h .circle) (h .long) e _ refl (none-refused m xs (h .cells)))
 
   -- a run with a scratchpad of h cells is accepted
@@ -67,16 +60,14 @@ module _ (p : Record) (m w : ℕ) (xs : List ℕ) (h : Lent p m w xs) where
 
   -- what it makes of the buffer with the result is the transform
   result-transform : (ys : List ℕ) (k : ℕ) → k < p .half → cells (heldIn (resultIn (p .count)) (runOf p m w (xs, ys))) k ≡ transform m w (p .half) (cells xs) k
-  result-transform ys k l =
-      ap (λ (zs : List ℕ). cells zs k) (held-after p m w xs ys h)
+  result-transform ys k l = ap (λ (zs : List ℕ). cells zs k) (held-after p m w xs ys h)
       ∙ ap (λ (n : ℕ). cells (after p m w xs h n) k) (sym (use-length p (h .planned)))
       ∙ run-transform m w (p .half) (circle p m w xs h) (inUse p) (use-product p (h .planned)) xs (all p m w xs h) k l
 
   -- after it the buffer with the result holds the transform
   pub run-transforms : (ys : List ℕ) → length ys ≡ p .half → (r : Verdict) (b : Two ℕ) → Runs p m w (xs, ys) r b
       → (k : ℕ) → k < p .half → cells (heldIn (resultIn (p .count)) b) k ≡ transform m w (p .half) (cells xs) k
-  run-transforms ys e r b s k l =
-      ap (λ (c : Two ℕ). cells (heldIn (resultIn (p .count)) c) k) (settled _ _ _ _ _ s (run-taken ys e)) ∙ result-transform ys k l
+  run-transforms ys e r b s k l = ap (λ (c : Two ℕ). cells (heldIn (resultIn (p .count)) c) k) (settled _ _ _ _ _ s (run-taken ys e)) ∙ result-transform ys k l
 
   -- stage calls written alternately leave what the stages do
   alternates : (ys : List ℕ) → length ys ≡ p .half → (k : ℕ) → k ≤ p .count → (b : Two ℕ) → Alternately p m w k (xs, ys) b
@@ -95,15 +86,14 @@ module _ (p : Record) (m w : ℕ) (xs : List ℕ) (h : Lent p m w xs) where
       taken src n f g = ap₂ (stageVerdict p k m w) (f ∙ source-run plain (residues m w (p .half)) (p .half) (inUse p) (xs, ys) k) g ∙ each-accepted k l
 
       go : c ≡ stages → (t : Bool) → eqb (k % 2) 0 ≡ t → Called t p k m w c r b → b ≡ across t (stageOf p k m w) stages
-      go same true f (kept, s) =
-          ap₂ (λ (d q : List ℕ). (d, q)) (kept ∙ ap (λ (u : Two ℕ). u .0) same)
-          (settled _ _ _ _ _ s (taken (c .0) (length (c .1)) (ap (λ (u : Two ℕ). u .0) same ∙ ap (λ (u : Bool). sourceBy u stages) (sym f)) (ap (λ (u : Two ℕ). length (u .1)) same ∙ long .1))
+      go same true f (kept, s) = ap₂ (λ (d q : List ℕ). (d, q)) (kept ∙ ap (λ (u : Two ℕ). u .0) same)
+          (settled _ _ _ _ _ s (taken (c .0) (length (c .1)) (ap (λ (u : Two ℕ). u .0) same ∙ ap (λ (u : Bool). sourceBy u stages) (sym f))
+          (ap (λ (u : Two ℕ). length (u .1)) same ∙ long .1))
           ∙ ap (λ (u : Two ℕ). stageOf p k m w (u .0)) same)
-      go same false f (kept, s) =
-          ap₂ (λ (d q : List ℕ). (d, q))
-          (settled _ _ _ _ _ s (taken (c .1) (length (c .0)) (ap (λ (u : Two ℕ). u .1) same ∙ ap (λ (u : Bool). sourceBy u stages) (sym f)) (ap (λ (u : Two ℕ). length (u .0)) same ∙ long .0))
-          ∙ ap (λ (u : Two ℕ). stageOf p k m w (u .1)) same)
-          (kept ∙ ap (λ (u : Two ℕ). u .1) same)
+      go same false f (kept, s) = ap₂ (λ (d q : List ℕ). (d, q))
+          (settled _ _ _ _ _ s (taken (c .1) (length (c .0)) (ap (λ (u : Two ℕ). u .1) same ∙ ap (λ (u : Bool). sourceBy u stages) (sym f))
+          (ap (λ (u : Two ℕ). length (u .0)) same ∙ long .0))
+          ∙ ap (λ (u : Two ℕ). stageOf p k m w (u .1)) same) (kept ∙ ap (λ (u : Two ℕ). u .1) same)
 
   -- a run leaves in both buffers what the stage calls, written alternately, leave there; then a single radix is copied back
   pub run-alternates : (ys : List ℕ) → length ys ≡ p .half → (r : Verdict) (b c : Two ℕ) → Runs p m w (xs, ys) r b → Alternately p m w (p .count) (xs, ys) c

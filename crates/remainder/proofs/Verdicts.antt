@@ -1,11 +1,5 @@
 -- Laws of the verdict on what is lent: what is accepted, and what an accepted call tells. Assumes nothing.
-use Prim.Native.Nat.{ℕ, _%_, _^_, _<_, _≤_}
-use mathlib.Core.Path.{_≡_, ap}
-use mathlib.Core.Bool.{true, false, not}
-use mathlib.Core.List.{List}
-use lib.Dec.{ltb}
-use lib.ListN.{length, getD}
-use borrow.Author.Tests.{lt-ltb, le-ltb, ltb-true, not-false}
+use Rattle.sequences.proofs.Basics.{_≡_, ap, ℕ, _%_, _^_, _<_, _≤_, true, false, not, List, ltb, length, getD, lt-ltb, le-ltb, ltb-true, not-false}
 use Rattle.refusal.specs.declared.Refusal.the-variants.{NotPlanned, Stage}
 use Rattle.refusal.specs.declared.Verdict.the-variants.{Accepted, Refused}
 use Rattle.refusal.proofs.Rows.{deciding, accepted}
@@ -28,7 +22,8 @@ none-large : (m : ℕ) (xs : List ℕ) → length xs ≤ firstLarge m xs → Und
 unfolding firstLarge
 none-large m xs h q l = ltb-true (getD xs q 0) m (not-false _ (none-passes 0 (λ (x : ℕ). not (ltb x m)) xs h q l))
 
-pub taken : (p : Record) (m w : ℕ) (xs : List ℕ) (room : ℕ) → isPlanned p ≡ true → lentVerdict (p .half) m w xs room ≡ Accepted → Lent p m w xs × (room ≡ p .half)
+pub taken : (p : Record) (m w : ℕ) (xs : List ℕ) (room : ℕ) → isPlanned p ≡ true → lentVerdict (p .half) m w xs room ≡ Accepted → Lent p m w xs
+    × (room ≡ p .half)
 unfolding lentVerdict
 taken p m w xs room planned e = search (accepted, none-large) depth 10
 

@@ -1,17 +1,8 @@
 -- Laws of scaling: the smallest power of two that reaches the target, the radices that it adds, and how many fit. Assumes nothing.
-use Prim.Native.Nat.{ℕ, zero, suc, _+_, _-_, _*_, _/_, _%_, _^_, _<_, _≤_}
-use native.Mathlib.Nat.{one-mul, mul-one, mul-assoc, mul-le-mul, mul-le-mul-left, pow-suc, pow-succ', mul-comm, lt-of-not-le}
-use native.Mathlib.Numerals.{add-one}
-use native.Mathlib.Decide.{decLe}
-use native.Mathlib.Omega.{arith}
-use mathlib.Core.Path.{_≡_, refl, sym, ap, _∙_}
-use mathlib.Core.Logic.{dite}
-use mathlib.Core.Bool.{Bool, true, false, cond}
-use mathlib.Core.List.{List, [], _∷_, _++_, append-nil, append-assoc}
-use lib.Dec.{eqb, ltb}
-use lib.Pow.{pow-add, pow-lt, pow-mono}
-use lib.ListN.{length, set, replicate, length-append, length-replicate}
-use borrow.Author.Tests.{eq-eqb, ne-eqb, le-leb, lt-leb, lt-ltb, le-ltb}
+use Rattle.sequences.proofs.Basics.{_≡_, refl, sym, ap, _∙_, ℕ, zero, suc, _+_, _-_, _*_, _/_, _%_, _^_, _<_, _≤_, one-mul, mul-one, mul-assoc, mul-le-mul}
+use Rattle.sequences.proofs.Basics.{mul-le-mul-left, pow-suc, pow-succ', mul-comm, lt-of-not-le, add-one, arith, decLe, Bool, true, false, cond, dite, List, []}
+use Rattle.sequences.proofs.Basics.{_∷_, _++_, append-nil, append-assoc, eqb, ltb, length, set, replicate, length-append, length-replicate, pow-add, pow-lt}
+use Rattle.sequences.proofs.Basics.{pow-mono, eq-eqb, ne-eqb, le-leb, lt-leb, lt-ltb, le-ltb}
 use Rattle.refusal.specs.Refusal.{Row, _⇒_, verdict}
 use Rattle.refusal.specs.declared.Refusal.{Refusal}
 use Rattle.refusal.specs.declared.Refusal.the-variants.{TooLarge}
@@ -39,10 +30,7 @@ module _ (t b : ℕ) where
 
   pub gain-skip : (g : ℕ) → 2 ^ g * b < t → g < t → gain t b ≡ gainFrom (t - g) g t b → gain t b ≡ gainFrom (t - (g + 1)) (g + 1) t b
   unfolding gainFrom
-  gain-skip g h l e =
-      e
-      ∙ ap (λ (k : ℕ). gainFrom k g t b) {x = t - g} {y = suc (t - (g + 1))} (omega arith)
-      ∙ simp (lt-leb t (2 ^ g * b) h, add-one)
+  gain-skip g h l e = e ∙ ap (λ (k : ℕ). gainFrom k g t b) {x = t - g} {y = suc (t - (g + 1))} (omega arith) ∙ simp (lt-leb t (2 ^ g * b) h, add-one)
 
   gain-here : (k g : ℕ) → t ≤ 2 ^ g * b → gainFrom k g t b ≡ g
   unfolding gainFrom
@@ -63,33 +51,26 @@ module _ (t b : ℕ) where
   -- the scaled product: below twice the target, or the base itself
   small-from : (k g : ℕ) → t ≤ 4096 → 2 ^ g * b ≤ largest → 2 ^ gainFrom k g t b * b ≤ largest
   small-from zero g h s = rw (gain-none g) s
-  small-from (suc k) g h s =
-      dite (decLe t (2 ^ g * b)) (λ (p : t ≤ 2 ^ g * b). rw (gain-here (suc k) g p) s)
-      (λ (n : t ≤ 2 ^ g * b → ⊥).
+  small-from (suc k) g h s = dite (decLe t (2 ^ g * b)) (λ (p : t ≤ 2 ^ g * b). rw (gain-here (suc k) g p) s) (λ (n : t ≤ 2 ^ g * b → ⊥).
       let l : 2 ^ g * b < t = lt-of-not-le n in
       rw (gain-past k g l) (small-from k (suc g) h (rw (← add-one g, twice-more g b) (omega arith))))
 
   -- it reaches the target
   reaches-from : (k g : ℕ) → t ≤ g + k → g < 2 ^ g * b → t ≤ 2 ^ gainFrom k g t b * b
   reaches-from zero g h s = rw (gain-none g) (omega arith)
-  reaches-from (suc k) g h s =
-      dite (decLe t (2 ^ g * b)) (λ (p : t ≤ 2 ^ g * b). rw (gain-here (suc k) g p) p)
-      (λ (n : t ≤ 2 ^ g * b → ⊥).
+  reaches-from (suc k) g h s = dite (decLe t (2 ^ g * b)) (λ (p : t ≤ 2 ^ g * b). rw (gain-here (suc k) g p) p) (λ (n : t ≤ 2 ^ g * b → ⊥).
       let l : 2 ^ g * b < t = lt-of-not-le n in
       rw (gain-past k g l) (reaches-from k (suc g) (omega arith) (rw (← add-one g, twice-more g b) (omega arith))))
 
   -- and no smaller one does
   least-from : (k g : ℕ) → ((j : ℕ) → j < g → 2 ^ j * b < t) → (j : ℕ) → j < gainFrom k g t b → 2 ^ j * b < t
   least-from zero g f j h = f j (rw (gain-none g) at h)
-  least-from (suc k) g f j h =
-      dite (decLe t (2 ^ g * b)) (λ (p : t ≤ 2 ^ g * b). f j (rw (gain-here (suc k) g p) at h))
-      (λ (n : t ≤ 2 ^ g * b → ⊥).
+  least-from (suc k) g f j h = dite (decLe t (2 ^ g * b)) (λ (p : t ≤ 2 ^ g * b). f j (rw (gain-here (suc k) g p) at h)) (λ (n : t ≤ 2 ^ g * b → ⊥).
       let l : 2 ^ g * b < t = lt-of-not-le n in
       least-from k (suc g) (below-next g l f) j (rw (gain-past k g l) at h))
     where
       below-next : (g : ℕ) → 2 ^ g * b < t → ((j : ℕ) → j < g → 2 ^ j * b < t) → (j : ℕ) → j < suc g → 2 ^ j * b < t
-      below-next g l f j h =
-          dite (decLe g j) (λ (p : g ≤ j). let e : j ≡ g = omega arith in rw e l) (λ (n : g ≤ j → ⊥). f j (lt-of-not-le n))
+      below-next g l f j h = dite (decLe g j) (λ (p : g ≤ j). let e : j ≡ g = omega arith in rw e l) (λ (n : g ≤ j → ⊥). f j (lt-of-not-le n))
 
 -- the smallest power of two with which the base reaches the target
 pub gain-reaches : (t b : ℕ) → 0 < b → t ≤ 2 ^ gain t b * b
@@ -106,8 +87,7 @@ gain-small t b h s = small-from t b t 0 h (rw one-mul s)
 
 pub gain-few : (t b : ℕ) → t ≤ 4096 → 0 < b → b ≤ largest → gain t b ≤ 13
 gain-few t b h p s =
-    let w : 2 ^ gain t b * 1 ≤ 2 ^ gain t b * b = mul-le-mul-left (2 ^ gain t b) p in
-    let q = gain-small t b h s in
+    let w : 2 ^ gain t b * 1 ≤ 2 ^ gain t b * b = mul-le-mul-left (2 ^ gain t b) p in let q = gain-small t b h s in
     dite (decLe (gain t b) 13) (λ (l : gain t b ≤ 13). l)
     (λ (n : gain t b ≤ 13 → ⊥). let m = pow-lt {i = 13} (lt-of-not-le n) in absurd (omega (arith, mul-one (2 ^ gain t b))))
 
@@ -125,11 +105,9 @@ product-over (suc (suc (suc k))) h = absurd (omega arith)
 
 pub product-gained : (g : ℕ) → product (gained g) ≡ 2 ^ g
 unfolding gained
-product-gained g =
-    product-append (replicate (g / 3) 8) (over (g % 3))
+product-gained g = product-append (replicate (g / 3) 8) (over (g % 3))
     ∙ ap (λ (n : ℕ). n * product (over (g % 3))) (product-replicate (g / 3) 8 ∙ pow-eight (g / 3))
-    ∙ ap (λ (n : ℕ). 2 ^ (3 * (g / 3)) * n) (product-over (g % 3) (rest-below g))
-    ∙ sym (pow-add 2 (3 * (g / 3)) (g % 3))
+    ∙ ap (λ (n : ℕ). 2 ^ (3 * (g / 3)) * n) (product-over (g % 3) (rest-below g)) ∙ sym (pow-add 2 (3 * (g / 3)) (g % 3))
     ∙ ap (λ (n : ℕ). 2 ^ n) {x = 3 * (g / 3) + g % 3} {y = g} (omega arith)
 
 radical-over : (k : ℕ) → k < 3 → Radical (over k)
@@ -145,8 +123,7 @@ radical-gained g = radical-append (replicate (g / 3) 8) (over (g % 3)) (radical-
 
 -- what is scaled to within the largest length has at most 13 entries
 pub scaled-few : (xs : List ℕ) (g : ℕ) → Radical xs → 2 ^ g * product xs ≤ largest → length (xs ++ gained g) ≤ 13
-scaled-few xs g r h =
-    entries-few (xs ++ gained g) (radical-append xs (gained g) r (radical-gained g))
+scaled-few xs g r h = entries-few (xs ++ gained g) (radical-append xs (gained g) r (radical-gained g))
     (rw (product-append xs (gained g), product-gained g, mul-comm (product xs) (2 ^ g)) h)
 
 -- nothing over, one, or two
@@ -191,8 +168,7 @@ module _ (xs es : List ℕ) (g : ℕ) (e : es ≡ padded (xs ++ replicate (g / 3
       → r .count ≡ length xs + g / 3 + 1 → r .entries ≡ set es (length xs + g / 3) v → r ≡ listed (xs ++ gained g)
   grown-pushed v r f h p q =
       let front = xs ++ replicate (g / 3) 8 in
-      listed-is (front ++ (v ∷ [])) (r .count) (r .entries)
-      (p ∙ sym (length-append front (v ∷ []) ∙ ap (λ (n : ℕ). n + 1) long))
+      listed-is (front ++ (v ∷ [])) (r .count) (r .entries) (p ∙ sym (length-append front (v ∷ []) ∙ ap (λ (n : ℕ). n + 1) long))
       (q ∙ ap (λ (l : List ℕ). set l (length xs + g / 3) v) e ∙ push-padded front (length xs + g / 3) v long h)
       ∙ ap listed (append-assoc xs (replicate (g / 3) 8) (v ∷ []) ∙ ap (λ (l : List ℕ). xs ++ l) (sym f))
 
@@ -213,8 +189,7 @@ module _ (from : ℕ) (xs : List ℕ) where
 
   pub check-base : verdict (listRows from xs) ≡ Accepted → Base
   check-base e =
-      let bad : length xs ≤ firstBad xs = search accepted in
-      let over : length xs ≤ firstOver 1 xs = search accepted in
+      let bad : length xs ≤ firstBad xs = search accepted in let over : length xs ≤ firstOver 1 xs = search accepted in
       record {
         radices = radical xs (bad-none xs bad);
         whole = over-none-at xs over;
@@ -238,9 +213,7 @@ module _ (target : ℕ) (ins outs : List ℕ) where
   module _ (a : verdict (listRows 0 ins) ≡ Accepted) where
     pub scale-out : (why : Refusal) (r : Scaled) → r ≡ refusedScaling why → verdict (listRows (length ins) outs) ≡ Refused why → r ≡ scaled target ins outs
     unfolding scaleVerdict
-    scale-out why r p e =
-        p
-        ∙ by-verdict (Refused why)
+    scale-out why r p e = p ∙ by-verdict (Refused why)
         (accepted-on (listRows 0 ins) (listRows (length ins) outs ++ last) a ∙ refused-on (listRows (length ins) outs) last why e)
 
     module _ (b : verdict (listRows (length ins) outs) ≡ Accepted) where
@@ -250,15 +223,14 @@ module _ (target : ℕ) (ins outs : List ℕ) where
 
       module _ (g p i o : ℕ) (e : g ≡ gain target (product ins)) (f : p ≡ 2 ^ g) (q : i ≡ product ins) (w : o ≡ product outs) where
         pub scale-large : largest < p * o → (r : Scaled) → r ≡ refusedScaling (TooLarge (length ins + length outs)) → r ≡ scaled target ins outs
-        scale-large h r x =
-            x ∙ by-verdict (Refused (TooLarge (length ins + length outs)))
+        scale-large h r x = x ∙ by-verdict (Refused (TooLarge (length ins + length outs)))
             (on-last ∙ simp (lt-ltb largest (2 ^ gain target (product ins) * product outs) (rw (f, e, w) at h)))
 
         pub scale-accepted : p * o ≤ largest → (x y : Radices) → x ≡ listed (ins ++ gained g) → y ≡ listed (outs ++ gained g)
-            → _≡_ {A = Scaled} (record { verdict = Accepted; p = p; «in_product» = p * i; «out_product» = p * o; «in_list» = x; «out_list» = y }) (scaled target ins outs)
+            → _≡_ {A = Scaled} (record { verdict = Accepted; p = p; «in_product» = p * i; «out_product» = p * o; «in_list» = x; «out_list» = y })
+            (scaled target ins outs)
         unfolding acceptedScaling
-        scale-accepted h x y u v =
-            rw (u, v, f, q, w, e)
+        scale-accepted h x y u v = rw (u, v, f, q, w, e)
             (by-verdict Accepted (on-last ∙ simp (le-ltb largest (2 ^ gain target (product ins) * product outs) (rw (f, e, w) at h))))
 
 -- ---- the numbers on the way

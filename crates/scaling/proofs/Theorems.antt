@@ -1,5 +1,5 @@
 -- Scaling is by the smallest power of two that reaches the target. Assumes nothing.
-use Prim.Native.Nat.{ℕ, _*_, _^_, _<_, _≤_}
+use Rattle.sequences.proofs.Basics.{ℕ, _*_, _^_, _<_, _≤_}
 use Rattle.scaling.specs.Scaling.{gain}
 use Rattle.scaling.proofs.Scaling.{gain-reaches, gain-least}
 

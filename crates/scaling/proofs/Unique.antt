@@ -1,7 +1,5 @@
 -- Two answers that meet a promise are equal. Assumes nothing.
-use Prim.Native.Nat.{ℕ}
-use mathlib.Core.Path.{_≡_}
-use mathlib.Core.List.{List}
+use Rattle.sequences.proofs.Basics.{_≡_, ℕ, List}
 use Rattle.refusal.proofs.Unique.{agree}
 use Rattle.scaling.specs.declared.Scaled.{Scaled}
 use Rattle.scaling.specs.Scaling.{Scales}

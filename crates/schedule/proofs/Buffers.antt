@@ -1,16 +1,7 @@
 -- Laws of two buffers written alternately: where the last stage's cells are. Assumes nothing.
-use mathlib.Core.Path.{_≡_, refl, sym, ap, _∙_}
-use mathlib.Core.Bool.{Bool, true, false, not, _||_}
+use Rattle.sequences.proofs.Basics.{_≡_, refl, sym, ap, _∙_, ℕ, zero, suc, _+_, _%_, _<_, _≤_, add-one, arith, ℕ-discrete, Bool, true, false, not, _||_, List}
+use Rattle.sequences.proofs.Basics.{eqb, length, getD, set, getD-set-same, getD-set-other, ext-getD, eq-eqb, ne-eqb, eqb-true, eqb-false}
 use Rattle.counts.specs.Counts.{bufferBy}
-use mathlib.Core.List.{List}
-use Prim.Native.Nat.{ℕ, zero, suc, _+_, _%_, _<_, _≤_}
-use native.Mathlib.Numerals.{add-one}
-use native.Mathlib.Omega.{arith}
-use native.Mathlib.Decide.{ℕ-discrete}
-use lib.Dec.{eqb}
-use lib.ListN.{length, getD, set}
-use lib.Seq.{getD-set-same, getD-set-other, ext-getD}
-use borrow.Author.Tests.{eq-eqb, ne-eqb, eqb-true, eqb-false}
 use Rattle.schedule.specs.Stage.{Kernel, Arith, stage, run}
 use Rattle.schedule.specs.Buffers.{Two, across, alternated, copiedBy, driven, heldIn}
 
@@ -38,10 +29,8 @@ pub source-run : {A : Type 0} (kernel : Kernel A) (a : Arith A) (h : ℕ) (rs : 
     → sourceBy (eqb (k % 2) 0) (alternated (stage kernel a h rs) k b) ≡ run kernel a h rs k (b .0)
 unfolding alternated run
 source-run kernel a h rs b zero = refl
-source-run kernel a h rs b (suc k) =
-    ap (λ (t : Bool). sourceBy t (alternated (stage kernel a h rs) (suc k) b)) (parity k)
-    ∙ across-source (eqb (k % 2) 0) (stage kernel a h rs k) (alternated (stage kernel a h rs) k b)
-    ∙ ap (stage kernel a h rs k) (source-run kernel a h rs b k)
+source-run kernel a h rs b (suc k) = ap (λ (t : Bool). sourceBy t (alternated (stage kernel a h rs) (suc k) b)) (parity k)
+    ∙ across-source (eqb (k % 2) 0) (stage kernel a h rs k) (alternated (stage kernel a h rs) k b) ∙ ap (stage kernel a h rs k) (source-run kernel a h rs b k)
 
 -- a single stage, t, and an even number, u: the named buffer holds what the last stage made
 pub held : {A : Type 0} (t u : Bool) (b : Two A) → (t ≡ true → u ≡ false) → heldIn (bufferBy (t || u)) (copiedBy t b) ≡ sourceBy u b
@@ -70,12 +59,14 @@ module _ {A : Type 0} (f : ℕ → List A → List A) (b : Two A) where
   across-next k t e = ap (λ (u : Bool). across u (f k) (alternated f k b)) (sym e) ∙ ap (λ (n : ℕ). alternated f n b) (sym (add-one k))
 
   -- what stage k leaves in the buffers d′ and s′, which held d and s
-  pub even-next : (k : ℕ) (d s d′ s′ : List A) → k % 2 ≡ 0 → d ≡ alternated f k b .0 → d′ ≡ d → s′ ≡ f k d → (d′ ≡ alternated f (k + 1) b .0) × (s′ ≡ alternated f (k + 1) b .1)
+  pub even-next : (k : ℕ) (d s d′ s′ : List A) → k % 2 ≡ 0 → d ≡ alternated f k b .0 → d′ ≡ d → s′ ≡ f k d → (d′ ≡ alternated f (k + 1) b .0)
+      × (s′ ≡ alternated f (k + 1) b .1)
   even-next k d s d′ s′ e g u v =
       let next = across-next k true (eq-eqb (k % 2) 0 e) in
       (u ∙ g ∙ ap (λ (c : Two A). c .0) next, v ∙ ap (f k) g ∙ ap (λ (c : Two A). c .1) next)
 
-  pub odd-next : (k : ℕ) (d s d′ s′ : List A) → (k % 2 ≡ 0 → ⊥) → s ≡ alternated f k b .1 → d′ ≡ f k s → s′ ≡ s → (d′ ≡ alternated f (k + 1) b .0) × (s′ ≡ alternated f (k + 1) b .1)
+  pub odd-next : (k : ℕ) (d s d′ s′ : List A) → (k % 2 ≡ 0 → ⊥) → s ≡ alternated f k b .1 → d′ ≡ f k s → s′ ≡ s → (d′ ≡ alternated f (k + 1) b .0)
+      × (s′ ≡ alternated f (k + 1) b .1)
   odd-next k d s d′ s′ e g u v =
       let next = across-next k false (ne-eqb (k % 2) 0 e) in
       (u ∙ ap (f k) g ∙ ap (λ (c : Two A). c .0) next, v ∙ g ∙ ap (λ (c : Two A). c .1) next)
@@ -85,7 +76,8 @@ module _ {A : Type 0} (f : ℕ → List A → List A) (b : Two A) where
   unfolding driven
   driven-copied count e d s g u = simp (eq-eqb count 1 e) (g ∙ u, u)
 
-  pub driven-kept : (count : ℕ) → (count ≡ 1 → ⊥) → (d s : List A) → d ≡ alternated f count b .0 → s ≡ alternated f count b .1 → (d ≡ driven f count b .0) × (s ≡ driven f count b .1)
+  pub driven-kept : (count : ℕ) → (count ≡ 1 → ⊥) → (d s : List A) → d ≡ alternated f count b .0 → s ≡ alternated f count b .1 → (d ≡ driven f count b .0)
+      × (s ≡ driven f count b .1)
   unfolding driven
   driven-kept count e d s g u = simp (ne-eqb count 1 e) (g, u)
 

@@ -1,12 +1,9 @@
 -- Where a stage reads and writes, for any arithmetic.
 -- Assumes nothing.
-use mathlib.Core.Path.{_≡_, refl, ap, ap₂, _∙_}
-use Prim.Native.Nat.{ℕ, zero, suc, _+_, _*_, _/_, _%_, _<_}
-use native.Mathlib.Nat.{zero-add, add-zero, add-suc, suc-add, zero-mul, mul-comm, zero-lt-suc, le-of-suc-le-suc, not-suc-le-zero, mod-lt, div-add-mod', div-lt-iff-lt-mul, mul-add-mod-self-right, mod-mod-of-dvd, dvd-mul-right, mul-pos, mul-div-le, div-eq-of-eq-mul-left}
-use native.Mathlib.Omega.{arith}
-use mathlib.Core.List.{List, _∷_}
-use lib.ListN.{length, getD}
-use lib.Arith.{digits-div, digits-mod, digits-lt}
+use Rattle.sequences.proofs.Basics.{_≡_, refl, ap, ap₂, _∙_, ℕ, zero, suc, _+_, _*_, _/_, _%_, _<_, zero-add, add-zero, add-suc, suc-add, zero-mul, mul-comm}
+use Rattle.sequences.proofs.Basics.{zero-lt-suc, le-of-suc-le-suc, not-suc-le-zero, mod-lt, div-add-mod', div-lt-iff-lt-mul, mul-add-mod-self-right}
+use Rattle.sequences.proofs.Basics.{mod-mod-of-dvd, dvd-mul-right, mul-pos, mul-div-le, div-eq-of-eq-mul-left, arith, List, _∷_, length, getD, digits-div}
+use Rattle.sequences.proofs.Basics.{digits-mod, digits-lt}
 use Rattle.schedule.specs.Stage.{Kernel, Arith, index, iteration, place, tabulate, output, stageBy}
 
 pub length-tabulate {ℓ} : {A : Type ℓ} (n i : ℕ) (f : ℕ → A) → length (tabulate n i f) ≡ n
@@ -81,8 +78,7 @@ module _ (s r i p : ℕ) (ps : 0 < s) (lp : p < r) where
 module _ (s r j : ℕ) (ps : 0 < s) (pr : 0 < r) where
   pub index-of-cell : index s r (iteration s r j) (place s r j) ≡ j
   unfolding index iteration place
-  index-of-cell =
-      rw (digits-div (j / (s * r)) (mod-lt j ps), digits-mod (j / (s * r)) (mod-lt j ps))
+  index-of-cell = rw (digits-div (j / (s * r)) (mod-lt j ps), digits-mod (j / (s * r)) (mod-lt j ps))
       (omega (arith, div-add-mod' j (s * r), div-add-mod' (j % (s * r)) s, mod-mod-of-dvd s j (dvd-mul-right s r)))
 
   pub place-lt : place s r j < r
@@ -100,8 +96,7 @@ module _ {A : Type 0} (kernel : Kernel A) (a : Arith A) (j h n s r : ℕ) (parts
   pub stage-output : (xs : List A) (i p : ℕ) → i < h / r → p < r
       → getD (stageBy kernel a j h s r xs) (index s r i p) (a .blank) ≡ output kernel a j (h / r) s r (λ q. getD xs q (a .blank)) i p
   unfolding stageBy
-  stage-output xs i p li lp =
-      getD-tabulate h 0 _ (index s r i p) (a .blank) (index-lt s r i p ps lp h n parts li)
+  stage-output xs i p li lp = getD-tabulate h 0 _ (index s r i p) (a .blank) (index-lt s r i p ps lp h n parts li)
       ∙ rw (zero-add, iteration-index s r i p ps lp, place-index s r i p ps lp)
 
 pub length-stage : {A : Type 0} (kernel : Kernel A) (a : Arith A) (j h s r : ℕ) (xs : List A) → length (stageBy kernel a j h s r xs) ≡ h

@@ -1,15 +1,7 @@
 -- How loops fill a stage's cells, for any arithmetic: one cell after the other, the outputs of more iterations, and at the end the stage.
 -- Assumes nothing.
-use mathlib.Core.Path.{_≡_, refl, sym, ap, _∙_}
-use mathlib.Core.Logic.{_⊎_, inl, inr}
-use mathlib.Core.List.{List}
-use Prim.Native.Nat.{ℕ, _+_, _-_, _*_, _/_, _%_, _≤_, _<_}
-use native.Mathlib.Nat.{zero-add, div-add-mod'}
-use native.Mathlib.Omega.{arith}
-use native.Mathlib.Decide.{ℕ-discrete, decLe}
-use lib.ListN.{length, getD, set}
-use lib.Arith.{digits-div, digits-mod}
-use lib.Seq.{getD-set-same, getD-set-other, ext-getD}
+use Rattle.sequences.proofs.Basics.{_≡_, refl, sym, ap, _∙_, ℕ, _+_, _-_, _*_, _/_, _%_, _≤_, _<_, zero-add, div-add-mod', arith, ℕ-discrete, decLe, _⊎_, inl}
+use Rattle.sequences.proofs.Basics.{inr, List, length, getD, set, getD-set-same, getD-set-other, ext-getD, digits-div, digits-mod}
 use Rattle.schedule.specs.Stage.{Kernel, Arith, index, iteration, place, output, stageBy}
 use Rattle.schedule.specs.Parts.{Wrote, Every, Done}
 use Rattle.schedule.proofs.Cells.{iteration-index, place-index, iteration-lt, place-lt, index-of-cell, length-tabulate, getD-tabulate}
@@ -21,14 +13,10 @@ module _ {A : Type 0} {at : ℕ → ℕ} {g : ℕ → A} {c : ℕ → A} where
   wrote-none none = record { inside = λ t l. absurd (none t l); outside = λ k o. refl }
 
   -- one more, at n
-  pub wrote-next : {T U : ℕ → Type 0} {c′ c″ : ℕ → A} (n : ℕ) → U n → ((t : ℕ) → T t → U t)
-      → ((t : ℕ) → U t → (t ≡ n → ⊥) → T t × (at t ≡ at n → ⊥))
+  pub wrote-next : {T U : ℕ → Type 0} {c′ c″ : ℕ → A} (n : ℕ) → U n → ((t : ℕ) → T t → U t) → ((t : ℕ) → U t → (t ≡ n → ⊥) → T t × (at t ≡ at n → ⊥))
       → c″ (at n) ≡ g n → ((k : ℕ) → (k ≡ at n → ⊥) → c″ k ≡ c′ k) → Wrote T at g c c′ → Wrote U at g c c″
   wrote-next {U = U} {c″ = c″} n last old new here else w =
-      record {
-        inside = λ t u. pick t u (ℕ-discrete t n);
-        outside = λ k o. else k (o n last) ∙ w .outside k (λ t l. o t (old t l));
-      }
+      record { inside = λ t u. pick t u (ℕ-discrete t n); outside = λ k o. else k (o n last) ∙ w .outside k (λ t l. o t (old t l)) }
     where
       pick : (t : ℕ) → U t → Dec (t ≡ n) → c″ (at t) ≡ g t
       pick t u (yes e) = rw e here
@@ -38,10 +26,7 @@ module _ {A : Type 0} {at : ℕ → ℕ} {g : ℕ → A} {c : ℕ → A} where
   pub wrote-both : {T U X : ℕ → Type 0} {c′ c″ : ℕ → A} → ((t : ℕ) → T t → X t) → ((t : ℕ) → U t → X t)
       → ((t : ℕ) → X t → U t ⊎ (T t × ((u : ℕ) → U u → at t ≡ at u → ⊥))) → Wrote T at g c c′ → Wrote U at g c′ c″ → Wrote X at g c c″
   wrote-both {T} {U} {c″ = c″} one two which w x =
-      record {
-        inside = λ t l. pick t (which t l);
-        outside = λ k o. x .outside k (λ t l. o t (two t l)) ∙ w .outside k (λ t l. o t (one t l));
-      }
+      record { inside = λ t l. pick t (which t l); outside = λ k o. x .outside k (λ t l. o t (two t l)) ∙ w .outside k (λ t l. o t (one t l)) }
     where
       pick : (t : ℕ) → U t ⊎ (T t × ((u : ℕ) → U u → at t ≡ at u → ⊥)) → c″ (at t) ≡ g t
       pick t (inl u) = x .inside t u
@@ -54,10 +39,7 @@ module _ {A : Type 0} {at : ℕ → ℕ} {g : ℕ → A} {c : ℕ → A} where
   pub wrote-as : {T : ℕ → Type 0} {at′ : ℕ → ℕ} {g′ : ℕ → A} {c′ : ℕ → A} → ((t : ℕ) → T t → (at t ≡ at′ t) × (g t ≡ g′ t))
       → Wrote T at g c c′ → Wrote T at′ g′ c c′
   wrote-as {c′ = c′} same w =
-      record {
-        inside = λ t l. ap c′ (sym (same t l .0)) ∙ w .inside t l ∙ same t l .1;
-        outside = λ k o. w .outside k (λ t l e. o t l (e ∙ same t l .0));
-      }
+      record { inside = λ t l. ap c′ (sym (same t l .0)) ∙ w .inside t l ∙ same t l .1; outside = λ k o. w .outside k (λ t l e. o t l (e ∙ same t l .0)) }
 
 -- ---- every second one: n after those below it of its parity, and the even ones and the odd ones are all
 
@@ -77,7 +59,8 @@ module _ {A : Type 0} {at : ℕ → ℕ} {g : ℕ → A} {c : ℕ → A} (apart 
       pick t l (no e) = inl (l, omega (arith, e))
 
 -- a loop past the last of them
-pub every-end : {A : Type 0} {at : ℕ → ℕ} {g c c′ : ℕ → A} (b n r : ℕ) → n % 2 ≡ b → r ≤ n → n ≤ r + 1 → Wrote (Every b n) at g c c′ → Wrote (Every b r) at g c c′
+pub every-end : {A : Type 0} {at : ℕ → ℕ} {g c c′ : ℕ → A} (b n r : ℕ) → n % 2 ≡ b → r ≤ n → n ≤ r + 1 → Wrote (Every b n) at g c c′
+    → Wrote (Every b r) at g c c′
 every-end b n r e l m = wrote-told (λ t x. (omega (arith, x .1), x .1)) (λ t x. (omega arith, x .1))
 
 pub every-none : {A : Type 0} {at : ℕ → ℕ} {g c : ℕ → A} (b : ℕ) → b < 2 → Wrote (Every b b) at g c c
@@ -110,8 +93,7 @@ module _ {A : Type 0} (s r : ℕ) (v : ℕ → ℕ → A) (ps : 0 < s) {D E : �
     where
       pick : ((t : ℕ) × (T t × ((i′ ≡ i t) × (p′ ≡ p t)))) ⊎ (((t : ℕ) → T t → i′ ≡ i t → p′ ≡ p t → ⊥) × D i′ p′) → c′ (index s r i′ p′) ≡ v i′ p′
       pick (inl (t, (l, (a, b)))) = rw (a, b) (w .inside t l)
-      pick (inr (far, d)) =
-          w .outside (index s r i′ p′) (λ t l x. let m = same-place s r i′ p′ (i t) (p t) ps lp (few t l) x in far t l (m .0) (m .1))
+      pick (inr (far, d)) = w .outside (index s r i′ p′) (λ t l x. let m = same-place s r i′ p′ (i t) (p t) ps lp (few t l) x in far t l (m .0) (m .1))
           ∙ before i′ p′ d lp
 
   -- all outputs of one more iteration
@@ -119,8 +101,7 @@ module _ {A : Type 0} (s r : ℕ) (v : ℕ → ℕ → A) (ps : 0 < s) {D E : �
       → Done s r v c D → Done s r v c′ E
   done-iteration i new w = done-more (λ t. i) (λ t. t) (λ t l. l) w (λ i′ p′ e lp. pick i′ p′ e lp (ℕ-discrete i′ i))
     where
-      pick : (i′ p′ : ℕ) → E i′ p′ → p′ < r → Dec (i′ ≡ i)
-          → ((t : ℕ) × ((t < r) × ((i′ ≡ i) × (p′ ≡ t)))) ⊎ (((t : ℕ) → t < r → i′ ≡ i → p′ ≡ t → ⊥) × D i′ p′)
+      pick : (i′ p′ : ℕ) → E i′ p′ → p′ < r → Dec (i′ ≡ i) → ((t : ℕ) × ((t < r) × ((i′ ≡ i) × (p′ ≡ t)))) ⊎ (((t : ℕ) → t < r → i′ ≡ i → p′ ≡ t → ⊥) × D i′ p′)
       pick i′ p′ e lp (yes a) = inl (p′, (lp, (a, refl)))
       pick i′ p′ e lp (no f) = inr (λ t l a b. f a, new i′ p′ e f)
 
@@ -148,8 +129,7 @@ module _ {A : Type 0} (s r : ℕ) (v : ℕ → ℕ → A) (i n : ℕ) where
   -- a row of n cells
   pub rowed-step : 0 < s → i % s + n ≤ s → (p : ℕ) → p < r → {c c′ : ℕ → A} → Wrote (λ t. t < n) (λ t. index s r i p + t) (λ t. v (i + t) p) c c′
       → Rowed s r v c i n p → Rowed s r v c′ i n (p + 1)
-  rowed-step ps one p lp w =
-      done-more s r v ps (λ t. i + t) (λ t. p) (λ t l. lp) (wrote-as (λ t l. (sym (index-run s r i p t (omega arith)), refl)) w)
+  rowed-step ps one p lp w = done-more s r v ps (λ t. i + t) (λ t. p) (λ t l. lp) (wrote-as (λ t l. (sym (index-run s r i p t (omega arith)), refl)) w)
       (λ i′ p′ (li, l) lp′. pick i′ p′ li l (ℕ-discrete p′ p) (decLe i i′))
     where
       pick : (i′ p′ : ℕ) → i′ < i + n → (i ≤ i′ → p′ < p + 1) → Dec (p′ ≡ p) → Dec (i ≤ i′)
@@ -163,8 +143,7 @@ module _ {A : Type 0} (s r : ℕ) (v : ℕ → ℕ → A) (i n : ℕ) where
 pub done-stage : {A : Type 0} (kernel : Kernel A) (a : Arith A) (j h n s r : ℕ) → h ≡ n * (s * r) → 0 < s → 0 < r → (xs ys : List A) → length ys ≡ h
     → Done s r (output kernel a j (h / r) s r (λ q. getD xs q (a .blank))) (λ k. getD ys k (a .blank)) (λ i p. i < h / r) → ys ≡ stageBy kernel a j h s r xs
 unfolding stageBy
-done-stage kernel a j h n s r parts ps pr xs ys len done =
-    ext-getD (a .blank) ys _ (len ∙ sym (length-tabulate h 0 _)) (λ k l.
+done-stage kernel a j h n s r parts ps pr xs ys len done = ext-getD (a .blank) ys _ (len ∙ sym (length-tabulate h 0 _)) (λ k l.
     let lk : k < h = rw len at l in
     rw (index-of-cell s r k ps pr) at (done (iteration s r k) (place s r k) (iteration-lt s r k ps pr h n parts lk) (place-lt s r k ps pr))
     ∙ sym (getD-tabulate h 0 _ k (a .blank) lk ∙ rw zero-add))

@@ -1,12 +1,6 @@
 -- Laws of an accepted plan's stages: their radices and strides, and the cells as whole blocks at each. Assumes nothing.
-use mathlib.Core.Path.{_≡_, sym, ap, _∙_}
-use mathlib.Core.Bool.{true}
-use mathlib.Core.List.{List}
-use Prim.Native.Nat.{ℕ, suc, _*_, _/_, _≤_, _<_}
-use native.Mathlib.Nat.{le-of-lt, mul-div-left}
-use native.Mathlib.Omega.{arith}
-use lib.ListN.{length, getD, drop}
-use lib.Seq.{getD-take, take-take, length-take-le}
+use Rattle.sequences.proofs.Basics.{_≡_, sym, ap, _∙_, ℕ, suc, _*_, _/_, _≤_, _<_, le-of-lt, mul-div-left, arith, true, List, length, getD, drop, getD-take}
+use Rattle.sequences.proofs.Basics.{take-take, length-take-le}
 use Rattle.plan.specs.declared.Record.{Record}
 use Rattle.radices.specs.Lists.{product}
 use Rattle.plan.specs.Record.{isPlanned}
@@ -48,8 +42,7 @@ module _ (p : Record) (e : isPlanned p ≡ true) where
   use-radix-few j l = rw (use-radix j l) (omega (arith, plan-radix-bounds p e j l))
 
   pub use-stride-some : (j : ℕ) → j < p .count → 0 < stride (inUse p) j
-  use-stride-some j l =
-      pos-left (stride (inUse p) j) (radix (inUse p) j)
+  use-stride-some j l = pos-left (stride (inUse p) j) (radix (inUse p) j)
       (pos-right (product (drop (suc j) (inUse p))) (stride (inUse p) j * radix (inUse p) j) (rw (← use-parts j l) (plan-half p e .0)))
 
 -- stage j by the radix and the stride that the code finds in the record
@@ -80,8 +73,7 @@ module _ (p : Record) (e : isPlanned p ≡ true) (j : ℕ) (l : j < p .count) wh
   found-whole = rw (by-radix (p .half) _ s r found-parts found-stride found-some, mul-div-left (product (drop (suc j) (inUse p))) found-stride)
 
   pub found-blocks : p .half / r / s ≡ p .half / (s * r)
-  found-blocks =
-      rw (by-radix (p .half) _ s r found-parts found-stride found-some, by-both (p .half) _ s r found-parts found-stride found-some)
+  found-blocks = rw (by-radix (p .half) _ s r found-parts found-stride found-some, by-both (p .half) _ s r found-parts found-stride found-some)
       (mul-div-left (product (drop (suc j) (inUse p))) found-stride)
 
   -- and fill the cells

@@ -1,11 +1,6 @@
 -- Laws of strides: each stage multiplies the stride by its radix. Assumes nothing.
-use mathlib.Core.Path.{_≡_, refl, sym, ap, _∙_}
-use mathlib.Core.List.{List, [], _∷_}
-use Prim.Native.Nat.{ℕ, zero, suc, _*_, _<_}
-use native.Mathlib.Nat.{one-mul, mul-one, mul-assoc, le-of-suc-le-suc, not-suc-le-zero}
-use native.Mathlib.Omega.{arith}
-use lib.ListN.{length, drop}
-use lib.Seq.{take-length}
+use Rattle.sequences.proofs.Basics.{_≡_, refl, sym, ap, _∙_, ℕ, zero, suc, _*_, _<_, one-mul, mul-one, mul-assoc, le-of-suc-le-suc, not-suc-le-zero, arith}
+use Rattle.sequences.proofs.Basics.{List, [], _∷_, length, drop, take-length}
 use Rattle.radices.specs.Lists.{product}
 use Rattle.counts.specs.Counts.{radix, stride}
 

@@ -1,7 +1,5 @@
 -- Laws of the plain sum, for any arithmetic. Assumes nothing.
-use mathlib.Core.Path.{_≡_, ap, ap₂, _∙_}
-use Prim.Native.Nat.{ℕ, zero, suc, _-_, _≤_, _<_}
-use native.Mathlib.Omega.{arith}
+use Rattle.sequences.proofs.Basics.{_≡_, ap, ap₂, _∙_, ℕ, zero, suc, _-_, _≤_, _<_, arith}
 use Rattle.schedule.specs.Stage.{Arith, kernelTurn, total, plain}
 
 -- one more term, as a loop over q has it
@@ -23,6 +21,7 @@ module _ {A : Type 0} (a b : Arith A) (plus : (u w : A) → a .plus u w ≡ b .p
       let last = e (suc n) (omega arith) in
       ap₂ (a .plus) (total-same n (λ q l. e q (omega arith))) (ap (a .turned (kernelTurn p (suc n) r)) (last .0) ∙ last .1 (y (suc n))) ∙ plus _ _
 
-  pub plain-same : 0 < r → ((q : ℕ) → q < r → (x q ≡ y q) × ((z : A) → a .turned (kernelTurn p q r) z ≡ b .turned (kernelTurn p q r) z)) → plain a r x p ≡ plain b r y p
+  pub plain-same : 0 < r → ((q : ℕ) → q < r → (x q ≡ y q) × ((z : A) → a .turned (kernelTurn p q r) z ≡ b .turned (kernelTurn p q r) z))
+      → plain a r x p ≡ plain b r y p
   unfolding plain
   plain-same some e = total-same (r - 1) (λ q l. e q (omega arith))

@@ -1,14 +1,7 @@
 -- Laws of the first element that passes a test: step by step, of two lists joined, and where none passes. Assumes nothing.
-use Prim.Native.Nat.{ℕ, zero, suc, _+_, _<_, _≤_}
-use native.Mathlib.Decide.{decLe}
-use native.Mathlib.Nat.{add-zero, zero-add, suc-add, lt-of-not-le, le-of-suc-le-suc}
-use native.Mathlib.Numerals.{add-one}
-use native.Mathlib.Omega.{arith}
-use mathlib.Core.Path.{_≡_, refl, sym, ap, _∙_}
-use mathlib.Core.Bool.{Bool, true, false, cond}
-use mathlib.Core.List.{List, [], _∷_, _++_}
-use lib.ListN.{length, getD, drop, drop-of-length-le, length-append}
-use lib.Seq.{drop-cons}
+use Rattle.sequences.proofs.Basics.{_≡_, refl, sym, ap, _∙_, ℕ, zero, suc, _+_, _<_, _≤_, add-zero, zero-add, suc-add, lt-of-not-le, le-of-suc-le-suc}
+use Rattle.sequences.proofs.Basics.{add-one, arith, decLe, Bool, true, false, cond, List, [], _∷_, _++_, length, getD, drop, drop-of-length-le}
+use Rattle.sequences.proofs.Basics.{length-append, drop-cons}
 use Rattle.sequences.specs.Lists.{firstThat}
 
 module _ {A : Type 0} (d : A) (p : A → Bool) (xs : List A) (i : ℕ) where

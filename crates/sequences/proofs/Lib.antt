@@ -1,2 +1,3 @@
 -- The laws that callers' proofs cite.
+pub mod Basics
 pub mod First

@@ -1,12 +1,6 @@
 -- A wrong program that the promise of `forward` shuts out: one spectrum for everything, at n = 2. Assumes nothing.
-use Prim.Native.Nat.{ℕ}
-use native.Mathlib.Omega.{arith}
-use mathlib.Core.Path.{_≡_, refl, sym, ap, _∙_}
-use mathlib.Core.Bool.{Bool, true, false}
-use mathlib.Core.List.{List, [], _∷_}
-use lib.Dec.{eqb}
+use Rattle.sequences.proofs.Basics.{_≡_, refl, sym, ap, _∙_, ℕ, arith, Bool, true, false, List, [], _∷_, eqb, getD}
 use lib.Ieee.{Float, nan, inf, fin, binary32, ofBits, add}
-use lib.ListN.{getD}
 use Rattle.sequences.specs.Lists.{firstThat}
 use Rattle.refusal.specs.declared.Verdict.{Verdict}
 use Rattle.refusal.specs.declared.Verdict.the-variants.{Accepted}

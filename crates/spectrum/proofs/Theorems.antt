@@ -1,12 +1,8 @@
 -- What a reader opens first: lent the same words for each stage, iteration and number, a call of either direction that is accepted at one width is
 -- accepted at any other, and leaves the same output and the same scratch; and a refused call writes nothing. That two outcomes of a call are
 -- equal is in proofs/Unique.antt. Assumes nothing.
-use Prim.Native.Nat.{ℕ, _-_, _*_, _<_}
-use mathlib.Core.Path.{_≡_, sym, ap, _∙_}
-use mathlib.Core.Bool.{Bool, true, not}
-use mathlib.Core.List.{List, _++_}
+use Rattle.sequences.proofs.Basics.{_≡_, sym, ap, _∙_, ℕ, _-_, _*_, _<_, Bool, true, not, List, _++_, length}
 use lib.Ieee.{Float}
-use lib.ListN.{length}
 use Rattle.refusal.specs.Refusal.{left}
 use Rattle.refusal.specs.declared.Refusal.{Refusal}
 use Rattle.refusal.specs.declared.Verdict.{Verdict}
@@ -32,11 +28,10 @@ use Rattle.spectrum.proofs.Verdicts.{lent-taken, all-fit}
 
 -- ---- widths
 
-module _ (p : Record) (planned : isPlanned p ≡ true) (W W′ : ℕ) (some : 0 < W) (some′ : 0 < W′) (stage stage′ : List Float) (alike : Alike p W W′ stage stage′) where
+module _ (p : Record) (planned : isPlanned p ≡ true) (W W′ : ℕ) (some : 0 < W) (some′ : 0 < W′) (stage stage′ : List Float)
+    (alike : Alike p W W′ stage stage′) where
   run-same : (b : Two Float) → runOf p W stage b ≡ runOf p W′ stage′ b
-  run-same b =
-      driven-same (stageIn p W stage) (stageIn p W′ stage′) b (p .count) (λ j l xs.
-      stage-lent p planned W some stage j l xs
+  run-same b = driven-same (stageIn p W stage) (stageIn p W′ stage′) b (p .count) (λ j l xs. stage-lent p planned W some stage j l xs
       ∙ ap flat (plan-agree p planned (lentTo p W stage) (lentTo p W′ stage′) j l (λ later. alike j later l) (paired xs))
       ∙ sym (stage-lent p planned W′ some′ stage′ j l xs))
 
@@ -52,12 +47,12 @@ module _ (p : Record) (planned : isPlanned p ≡ true) (W W′ : ℕ) (some : 0 
       made b = (b .0 ++ zeros (n - 2 * p .half), withBoth (p .half) b s)
 
 -- the verdict at W′ accepts where that at W does
-accepted-any-width : (p : Record) (W W′ : ℕ) (input output : Bool) (scratch k : ℕ) (xs stage stage′ end : List Float) → lentVerdict p W input output scratch k xs stage end ≡ Accepted
+accepted-any-width : (p : Record) (W W′ : ℕ) (input output : Bool) (scratch k : ℕ) (xs stage stage′ end : List Float)
+    → lentVerdict p W input output scratch k xs stage end ≡ Accepted
     → isWidth W′ ≡ true → length stage′ ≡ length stage → Alike p W W′ stage stage′ → lentVerdict p W′ input output scratch k xs stage′ end ≡ Accepted
 unfolding firstUnfit lentVerdict
 accepted-any-width p W W′ input output scratch k xs stage stage′ end accepted wide same alike =
-    let t = lent-taken p W input output scratch k xs stage end accepted in
-    let lent = same ∙ t .stages in
+    let t = lent-taken p W input output scratch k xs stage end accepted in let lent = same ∙ t .stages in
     let fit = joined-none (λ (x : Float). not (fits 0 x)) stage end (t .twiddles) in
     let fit′ = all-fit-alike p (t .planned) W W′ (width-bounds W (t .width) .0) (width-bounds W′ wide .0) stage stage′ (t .stages) lent alike (fit .0) in
     let both = all-fit stage′ end fit′ (fit .1) in
@@ -66,7 +61,8 @@ accepted-any-width p W W′ input output scratch k xs stage stage′ end accepte
 -- ---- calls
 
 -- lent the same words, a call that is accepted at W is accepted at W′, and leaves the same
-module _ (p : Record) (W W′ : ℕ) (stage stage′ end xs : List Float) (before : Slices) (r r′ : Verdict) (after after′ : Slices) (e : r ≡ Accepted) (wide : isWidth W′ ≡ true)
+module _ (p : Record) (W W′ : ℕ) (stage stage′ end xs : List Float) (before : Slices) (r r′ : Verdict) (after after′ : Slices) (e : r ≡ Accepted)
+    (wide : isWidth W′ ≡ true)
     (same : length stage′ ≡ length stage) (alike : Alike p W W′ stage stage′) where
   pub forward-any-width : Forwards p W stage end xs before r after → Forwards p W′ stage′ end xs before r′ after′ → (r′ ≡ Accepted) × (after ≡ after′)
   forward-any-width f g =
@@ -81,7 +77,8 @@ module _ (p : Record) (W W′ : ℕ) (stage stage′ end xs : List Float) (befor
       let told = sym (f .answer) ∙ e in
       let told′ = accepted-any-width p W W′ _ _ _ 48 xs stage stage′ end told wide same alike in
       let t = lent-taken p W _ _ _ 48 xs stage end told in
-      let made = inverse-same p (t .planned) W W′ (width-bounds W (t .width) .0) (width-bounds W′ wide .0) stage stage′ alike end xs (before .1) (length (before .0)) in
+      let made = inverse-same p (t .planned) W W′ (width-bounds W (t .width) .0) (width-bounds W′ wide .0) stage stage′ alike end xs (before .1)
+      (length (before .0)) in
       (g .answer ∙ told′, settled _ _ _ _ _ f told ∙ made ∙ sym (settled _ _ _ _ _ g told′))
 
 -- a refused call writes nothing

@@ -1,14 +1,7 @@
 -- Laws of the verdicts: where a number does not fit, and what an accepted call tells. Assumes nothing.
-use Prim.Native.Nat.{ℕ, _+_, _-_, _*_, _≤_, _<_}
-use native.Mathlib.Omega.{arith}
-use native.Mathlib.Decide.{ℕ-discrete}
-use mathlib.Core.Path.{_≡_, refl, sym, ap, _∙_}
-use mathlib.Core.Bool.{Bool, true, not}
-use mathlib.Core.List.{List, _++_}
-use lib.Dec.{eqb, ltb}
+use Rattle.sequences.proofs.Basics.{_≡_, refl, sym, ap, _∙_, ℕ, _+_, _-_, _*_, _≤_, _<_, arith, ℕ-discrete, Bool, true, not, List, _++_, eqb, ltb, length}
+use Rattle.sequences.proofs.Basics.{length-append, ltb-false, eqb-true, eq-eqb, ne-eqb, not-true}
 use lib.Ieee.{Float}
-use lib.ListN.{length, length-append}
-use borrow.Author.Tests.{ltb-false, eqb-true, eq-eqb, ne-eqb, not-true}
 use Rattle.refusal.specs.declared.Verdict.{Verdict}
 use Rattle.refusal.specs.declared.Verdict.the-variants.{Accepted}
 use Rattle.refusal.proofs.Rows.{accepted}
@@ -59,12 +52,14 @@ pub record Taken (p : Record) (W : ℕ) (input output : Bool) (scratch k : ℕ) 
   pub numbers : length xs ≤ firstUnfit k xs
   pub twiddles : length (stage ++ end) ≤ firstUnfit 0 (stage ++ end)
 
-pub lent-taken : (p : Record) (W : ℕ) (input output : Bool) (scratch k : ℕ) (xs stage end : List Float) → lentVerdict p W input output scratch k xs stage end ≡ Accepted
+pub lent-taken : (p : Record) (W : ℕ) (input output : Bool) (scratch k : ℕ) (xs stage end : List Float)
+    → lentVerdict p W input output scratch k xs stage end ≡ Accepted
     → Taken p W input output scratch k xs stage end
 unfolding lentVerdict
 lent-taken p W input output scratch k xs stage end t = search accepted depth 14
 
-pub forwardable : (p : Record) (W : ℕ) (input output : Bool) (ni nw scratch k : ℕ) (xs stage end : List Float) (v : Verdict) → input ≡ eqb ni (p .n) → output ≡ eqb nw (binWords p)
+pub forwardable : (p : Record) (W : ℕ) (input output : Bool) (ni nw scratch k : ℕ) (xs stage end : List Float) (v : Verdict) → input ≡ eqb ni (p .n)
+    → output ≡ eqb nw (binWords p)
     → v ≡ lentVerdict p W input output scratch k xs stage end → v ≡ Accepted → Forwardable p W ni nw scratch (length stage) (length end)
 forwardable p W input output ni nw scratch k xs stage end v ei eo told e =
     let t = lent-taken p W input output scratch k xs stage end (sym told ∙ e) in
@@ -78,7 +73,8 @@ forwardable p W input output ni nw scratch k xs stage end v ei eo told e =
       ends = t .ends;
     }
 
-pub invertible : (p : Record) (W : ℕ) (input output : Bool) (ni nw scratch k : ℕ) (xs stage end : List Float) (v : Verdict) → input ≡ eqb ni (binWords p) → output ≡ not (ltb nw (p .n))
+pub invertible : (p : Record) (W : ℕ) (input output : Bool) (ni nw scratch k : ℕ) (xs stage end : List Float) (v : Verdict) → input ≡ eqb ni (binWords p)
+    → output ≡ not (ltb nw (p .n))
     → v ≡ lentVerdict p W input output scratch k xs stage end → v ≡ Accepted → Invertible p W ni nw scratch (length stage) (length end)
 invertible p W input output ni nw scratch k xs stage end v ei eo told e =
     let t = lent-taken p W input output scratch k xs stage end (sym told ∙ e) in

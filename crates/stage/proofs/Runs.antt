@@ -1,11 +1,6 @@
 -- Laws of a run: its stages find what they ask for, and leave what the definition states. Assumes nothing.
-use Prim.Native.Nat.{ℕ, _+_, _-_, _*_, _%_, _≤_, _<_}
-use native.Mathlib.Omega.{arith}
-use mathlib.Core.Path.{_≡_, sym, ap, _∙_}
-use mathlib.Core.List.{List}
+use Rattle.sequences.proofs.Basics.{_≡_, sym, ap, _∙_, ℕ, _+_, _-_, _*_, _%_, _≤_, _<_, arith, List, length, take, drop, length-drop, length-take-le}
 use lib.Ieee.{Float}
-use lib.ListN.{length, take, drop, length-drop}
-use lib.Seq.{length-take-le}
 use Rattle.counts.specs.Counts.{radix, stride, twiddleCount, twiddleStart, stageTwiddles}
 use Rattle.plan.specs.declared.Record.{Record}
 use Rattle.counts.proofs.Counts.{start-next, start-up}
@@ -27,15 +22,16 @@ own-within p k l =
     omega (arith, up, start-next (p .half) (p .radices) k)
 
 -- cut out as they are, they are its own
-pub own-slice : (p : Record) (k : ℕ) (tw : List Float) (start count : ℕ) → start ≡ twiddleStart (p .half) (p .radices) k → count ≡ twiddleCount (p .half) (p .radices) k
+pub own-slice : (p : Record) (k : ℕ) (tw : List Float) (start count : ℕ) → start ≡ twiddleStart (p .half) (p .radices) k
+    → count ≡ twiddleCount (p .half) (p .radices) k
     → take (2 * start + 2 * count - 2 * start) (drop (2 * start) tw) ≡ ownOf p tw k
 own-slice p k tw start count es ec =
     let e : 2 * start + 2 * count - 2 * start ≡ 2 * count = omega arith in
     rw (e, es, ec)
 
-pub own-length : (p : Record) (k : ℕ) (tw : List Float) → k < p .count → length tw ≡ 2 * stageTwiddles p → length (ownOf p tw k) ≡ 2 * twiddleCount (p .half) (p .radices) k
-own-length p k tw l e =
-    length-take-le _ _ (omega (arith, length-drop (2 * twiddleStart (p .half) (p .radices) k) tw, own-within p k l, e))
+pub own-length : (p : Record) (k : ℕ) (tw : List Float) → k < p .count → length tw ≡ 2 * stageTwiddles p
+    → length (ownOf p tw k) ≡ 2 * twiddleCount (p .half) (p .radices) k
+own-length p k tw l e = length-take-le _ _ (omega (arith, length-drop (2 * twiddleStart (p .half) (p .radices) k) tw, own-within p k l, e))
 
 -- what a stage of a run hands to its work
 module _ (p : Record) (k W ns nd start : ℕ) (tw own : List Float) (h : Steppable p k W ns nd (length tw) start) (same : own ≡ ownOf p tw k) where

@@ -1,7 +1,5 @@
 -- Two outcomes that meet a promise are equal. Assumes nothing.
-use Prim.Native.Nat.{ℕ}
-use mathlib.Core.Path.{_≡_}
-use mathlib.Core.List.{List}
+use Rattle.sequences.proofs.Basics.{_≡_, ℕ, List}
 use lib.Ieee.{Float}
 use Rattle.refusal.specs.declared.Verdict.{Verdict}
 use Rattle.refusal.proofs.Unique.{Settles-one}

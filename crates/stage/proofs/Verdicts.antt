@@ -1,9 +1,6 @@
 -- What an accepted call of a stage tells. Assumes nothing.
-use Prim.Native.Nat.{ℕ, _≤_}
-use mathlib.Core.Path.{_≡_, sym, _∙_}
-use mathlib.Core.List.{List}
+use Rattle.sequences.proofs.Basics.{_≡_, sym, _∙_, ℕ, _≤_, List, length}
 use lib.Ieee.{Float}
-use lib.ListN.{length}
 use Rattle.refusal.specs.declared.Verdict.{Verdict}
 use Rattle.refusal.specs.declared.Verdict.the-variants.{Accepted}
 use Rattle.refusal.proofs.Rows.{accepted}
@@ -18,7 +15,8 @@ pub record Taken (p : Record) (j W : ℕ) (xs : List Float) (output : ℕ) (tw :
   pub numbers : length xs ≤ firstUnfit 48 xs
   pub twiddles : length tw ≤ firstUnfit 0 tw
 
-pub stage-taken : (p : Record) (j W : ℕ) (xs : List Float) (output : ℕ) (tw : List Float) → stageVerdict p j W xs output tw ≡ Accepted → Taken p j W xs output tw
+pub stage-taken : (p : Record) (j W : ℕ) (xs : List Float) (output : ℕ) (tw : List Float) → stageVerdict p j W xs output tw ≡ Accepted
+    → Taken p j W xs output tw
 unfolding stageVerdict
 stage-taken p j W xs output tw t = search accepted depth 12
 

@@ -1,15 +1,9 @@
 -- Laws of a scratch: its Data, its Scratchpad and the rest, what replaces them, and what the stages leave. Assumes nothing.
-use Prim.Native.Nat.{ℕ, _+_, _-_, _*_, _≤_, _<_}
-use native.Mathlib.Omega.{arith}
-use mathlib.Core.Path.{_≡_, refl, sym, ap, ap₂, _∙_}
-use mathlib.Core.List.{List, _++_, append-assoc, append-nil}
-use mathlib.Core.Bool.{Bool, true, false, cond}
-use borrow.Author.Tests.{ltb-true, ltb-false}
+use Rattle.sequences.proofs.Basics.{_≡_, refl, sym, ap, ap₂, _∙_, ℕ, _+_, _-_, _*_, _≤_, _<_, arith, Bool, true, false, cond, List, _++_, append-assoc}
+use Rattle.sequences.proofs.Basics.{append-nil, ltb, length, take, drop, length-append, length-drop, take-append-drop, drop-of-length-le, length-take-le}
+use Rattle.sequences.proofs.Basics.{length-front, take-at, drop-at, drop-drop, drop-append-le, take-append-le, ltb-true, ltb-false}
 use borrow.Rule.Slice.PartMut.{putMid}
-use lib.Dec.{ltb}
 use lib.Ieee.{Float}
-use lib.ListN.{length, take, drop, length-append, length-drop, take-append-drop, drop-of-length-le}
-use lib.Seq.{length-take-le, length-front, take-at, drop-at, drop-drop, drop-append-le, take-append-le}
 use Rattle.counts.specs.declared.Buffer.{Buffer}
 use Rattle.counts.specs.declared.Buffer.the-variants.{Data, Scratchpad}
 use Rattle.plan.specs.declared.Record.{Record}
@@ -21,7 +15,8 @@ use Rattle.floats.specs.Words.{pasted}
 use Rattle.transform.specs.Transforms.{dataOf, padOf, withBoth}
 
 -- the first words replaced by as many, the row is as long as it was
-pub front-room : (h : ℕ) (d s : List Float) → length d ≡ length (take (2 * h) s) → 2 * h ≤ length s → (length (d ++ drop (2 * h) s) ≡ length s) × (length (dataOf h (d ++ drop (2 * h) s)) ≡ 2 * h)
+pub front-room : (h : ℕ) (d s : List Float) → length d ≡ length (take (2 * h) s) → 2 * h ≤ length s → (length (d ++ drop (2 * h) s) ≡ length s)
+    × (length (dataOf h (d ++ drop (2 * h) s)) ≡ 2 * h)
 front-room h d s e l =
     let same = length-front s d (2 * h) e in
     (same, length-take-le (2 * h) (d ++ drop (2 * h) s) (rw same l))
@@ -86,7 +81,8 @@ module _ (h : ℕ) (b : Two Float) (s : List Float) (l : length (b .0) ≡ 2 * h
 
   pub both-pad : padOf h (withBoth h b s) ≡ b .1
   both-pad =
-      ap (take (2 * h)) (drop-append-le (2 * h) (b .0 ++ b .1) (drop (4 * h) s) (omega (arith, long)) ∙ ap (λ (r : List Float). r ++ drop (4 * h) s) (drop-at (b .0) (b .1) (2 * h) l))
+      ap (take (2 * h)) (drop-append-le (2 * h) (b .0 ++ b .1) (drop (4 * h) s) (omega (arith, long))
+      ∙ ap (λ (r : List Float). r ++ drop (4 * h) s) (drop-at (b .0) (b .1) (2 * h) l))
       ∙ take-at (b .1) (drop (4 * h) s) (2 * h) m
 
   pub both-rest : drop (4 * h) (withBoth h b s) ≡ drop (4 * h) s
@@ -112,7 +108,8 @@ pad-pasted h e s le =
 pub tail-replaced : (n : ℕ) (z o : List Float) → n ≤ length o → putMid n (length o - n) o z ≡ take n o ++ z
 tail-replaced n z o l =
     let all : length o ≤ n + (length o - n) = omega arith in
-    ap (λ (r : List Float). take n o ++ (z ++ r)) (drop-drop (length o - n) n o ∙ drop-of-length-le o all) ∙ ap (λ (r : List Float). take n o ++ r) (append-nil z)
+    ap (λ (r : List Float). take n o ++ (z ++ r)) (drop-drop (length o - n) n o ∙ drop-of-length-le o all)
+    ∙ ap (λ (r : List Float). take n o ++ r) (append-nil z)
 
 pub tail-length : (n : ℕ) (o : List Float) → length (take (length o - n) (drop n o)) ≡ length o - n
 tail-length n o = length-take-le (length o - n) (drop n o) (omega (arith, length-drop n o))
@@ -143,9 +140,7 @@ module _ (p : Record) (W : ℕ) (tw : List Float) where
         let lens = run-long (xs, dataOf (p .half) o) samples (length-take-le (2 * p .half) o other) in
         let ld : length d ≡ 2 * p .half = ap length ed ∙ lens .0 in
         let le : length e ≡ 2 * p .half = ap length ee ∙ lens .1 in
-        made
-        ∙ ap (pasted (d ++ drop (2 * p .half) s) (2 * p .half)) (front-data (p .half) e o le)
-        ∙ both-pasted (p .half) d s ld e le
+        made ∙ ap (pasted (d ++ drop (2 * p .half) s) (2 * p .half)) (front-data (p .half) e o le) ∙ both-pasted (p .half) d s ld e le
         ∙ ap₂ (λ (u v : List Float). withBoth (p .half) (u, v) s) ed ee
         ∙ ap (λ (b : Two Float). withBoth (p .half) b s) (driven-pad (stageIn p W tw) xs (dataOf (p .half) o) (padOf (p .half) s) (p .count) some)
 
@@ -156,8 +151,7 @@ module _ (p : Record) (W : ℕ) (tw : List Float) where
     pub stages-none : p .count ≡ 0 → (d : List Float) → d ≡ beside .0 → d ++ drop (2 * p .half) s ≡ withBoth (p .half) within s
     stages-none none d ed =
         let same : d ≡ xs = ed ∙ ap (λ (b : Two Float). b .0) (nothing none (xs, dataOf (p .half) o)) in
-        ap (λ (u : List Float). u ++ drop (2 * p .half) s) same
-        ∙ data-replaced (p .half) xs s
+        ap (λ (u : List Float). u ++ drop (2 * p .half) s) same ∙ data-replaced (p .half) xs s
         ∙ ap (λ (b : Two Float). withBoth (p .half) b s) (sym (nothing none (xs, padOf (p .half) s)))
 
     -- the other buffer does for the Scratchpad, if a stage ran
@@ -168,7 +162,6 @@ module _ (p : Record) (W : ℕ) (tw : List Float) where
         (ed ∙ ap (λ (b : Two Float). b .0) same, ee ∙ ap (λ (b : Two Float). b .1) same)
     within-beside false none d e ed ee =
         let zero : p .count ≡ 0 = omega (arith, ltb-false 0 (p .count) none) in (
-          ed ∙ ap (λ (b : Two Float). b .0) (nothing zero (xs, dataOf (p .half) o))
-              ∙ ap (λ (b : Two Float). b .0) (sym (nothing zero (xs, padOf (p .half) s))),
+          ed ∙ ap (λ (b : Two Float). b .0) (nothing zero (xs, dataOf (p .half) o)) ∙ ap (λ (b : Two Float). b .0) (sym (nothing zero (xs, padOf (p .half) s))),
           ap (λ (b : Two Float). b .1) (sym (nothing zero (xs, padOf (p .half) s))),
         )

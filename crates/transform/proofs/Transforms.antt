@@ -1,15 +1,9 @@
 -- Laws of both directions: that the steps of the code, one after the other, make what the definitions state. Assumes nothing.
-use Prim.Native.Nat.{ℕ, zero, suc, _+_, _-_, _*_, _/_, _%_, _≤_, _<_}
-use native.Mathlib.Omega.{arith}
-use mathlib.Core.Path.{_≡_, refl, sym, ap, ap₂, _∙_}
-use mathlib.Core.Bool.{Bool, true, false, cond}
-use mathlib.Core.List.{List, _++_, append-assoc}
-use lib.Dec.{eqb, ltb}
+use Rattle.sequences.proofs.Basics.{_≡_, refl, sym, ap, ap₂, _∙_, ℕ, zero, suc, _+_, _-_, _*_, _/_, _%_, _≤_, _<_, arith, Bool, true, false, cond, List, _++_}
+use Rattle.sequences.proofs.Basics.{append-assoc, eqb, ltb, length, take, drop, length-append, length-drop, length-take-le, take-at, drop-at, drop-drop}
+use Rattle.sequences.proofs.Basics.{drop-append-le, take-append-le, eqb-true, lt-ltb}
 use borrow.Rule.Slice.PartMut.{putMid}
 use lib.Ieee.{Float}
-use lib.ListN.{length, take, drop, length-append, length-drop}
-use lib.Seq.{length-take-le, take-at, drop-at, drop-drop, drop-append-le, take-append-le}
-use borrow.Author.Tests.{eqb-true, lt-ltb}
 use Rattle.counts.specs.Counts.{resultIn, bufferNumber, endCount}
 use Rattle.plan.specs.Record.{isPlanned}
 use Rattle.counts.specs.declared.Buffer.{Buffer}
@@ -63,27 +57,22 @@ pub prepare-made : (h : ℕ) (end xs s q : List Float) → 0 < h → q ≡ prepa
     → q ++ drop (2 * (h + 1)) s ≡ conjugated h (dataOf h (preparedOf h end xs s)) ++ drop (2 * h) (preparedOf h end xs s)
 unfolding preparedOf
 prepare-made h end xs s q some e =
-    let made = preprocess-ifft h end xs in
-    let rest = drop (2 * (h + 1)) s in
+    let made = preprocess-ifft h end xs in let rest = drop (2 * (h + 1)) s in
     let long : 2 * h ≤ length made = omega (arith, length-ended ifftSteps h end xs) in
-    ap (λ (u : List Float). u ++ rest) (e ∙ prepared-is ifftSteps h end xs some)
-    ∙ append-assoc (conjugated h (take (2 * h) made)) (drop (2 * h) made) rest
+    ap (λ (u : List Float). u ++ rest) (e ∙ prepared-is ifftSteps h end xs some) ∙ append-assoc (conjugated h (take (2 * h) made)) (drop (2 * h) made) rest
     ∙ ap₂ (λ (u v : List Float). conjugated h u ++ v) (sym (take-append-le (2 * h) made rest long)) (sym (drop-append-le (2 * h) made rest long))
 
 -- what is prepared is as long as the scratch, and its rest is the scratch's
 module _ (h : ℕ) (end xs s : List Float) (some : 0 < h) (room : 4 * h ≤ length s) where
   prepared-long : length (preparedOf h end xs s) ≡ length s
   unfolding preparedOf
-  prepared-long =
-      length-append (preprocess-ifft h end xs) (drop (2 * (h + 1)) s)
-      ∙ omega (arith, length-ended ifftSteps h end xs, length-drop (2 * (h + 1)) s)
+  prepared-long = length-append (preprocess-ifft h end xs) (drop (2 * (h + 1)) s) ∙ omega (arith, length-ended ifftSteps h end xs, length-drop (2 * (h + 1)) s)
 
   prepared-rest : drop (4 * h) (preparedOf h end xs s) ≡ drop (4 * h) s
   unfolding preparedOf
   prepared-rest =
       let parts : 4 * h ≡ 2 * (h + 1) + (2 * h - 2) = omega arith in
-      rw parts
-      (sym (drop-drop (2 * h - 2) (2 * (h + 1)) (preprocess-ifft h end xs ++ drop (2 * (h + 1)) s))
+      rw parts (sym (drop-drop (2 * h - 2) (2 * (h + 1)) (preprocess-ifft h end xs ++ drop (2 * (h + 1)) s))
       ∙ ap (drop (2 * h - 2)) (drop-at (preprocess-ifft h end xs) (drop (2 * (h + 1)) s) (2 * (h + 1)) (length-ended ifftSteps h end xs))
       ∙ drop-drop (2 * h - 2) (2 * (h + 1)) s)
 
@@ -92,10 +81,8 @@ pub data-restored : (h : ℕ) (s o x s1 s2 o1 : List Float) → 4 * h ≤ length
     → s2 ≡ conjugated h (dataOf h s1) ++ drop (2 * h) s1 → o1 ≡ pasted o 0 (dataOf h s2)
     → (s2 ≡ withBoth h (conjugated h (dataOf h s), x) s) × (o1 ≡ conjugated h (dataOf h s) ++ drop (2 * h) o)
 data-restored h s o x s1 s2 o1 room lx e1 e2 e3 =
-    let c : List Float = conjugated h (dataOf h s) in
-    let lc : length c ≡ 2 * h = length-conjugated h (dataOf h s) in
-    let b : Two Float = (dataOf h s, x) in
-    let ld = data-length h s room in
+    let c : List Float = conjugated h (dataOf h s) in let lc : length c ≡ 2 * h = length-conjugated h (dataOf h s) in
+    let b : Two Float = (dataOf h s, x) in let ld = data-length h s room in
     let d : dataOf h s1 ≡ dataOf h s = ap (dataOf h) e1 ∙ both-data h b s ld lx in
     let p : padOf h s1 ≡ x = ap (padOf h) e1 ∙ both-pad h b s ld lx in
     let r : drop (4 * h) s1 ≡ drop (4 * h) s = ap (drop (4 * h)) e1 ∙ both-rest h b s ld lx in
@@ -108,8 +95,7 @@ data-restored h s o x s1 s2 o1 room lx e1 e2 e3 =
 pub pad-restored : (h : ℕ) (s o o1 s1 s2 : List Float) → o1 ≡ conjugated h (dataOf h o) ++ drop (2 * h) o → s1 ≡ pasted s 0 (dataOf h o1)
     → s2 ≡ pasted s1 (2 * h) (dataOf h o1) → s2 ≡ withBoth h (conjugated h (dataOf h o), conjugated h (dataOf h o)) s
 pad-restored h s o o1 s1 s2 e1 e2 e3 =
-    let c : List Float = conjugated h (dataOf h o) in
-    let lc : length c ≡ 2 * h = length-conjugated h (dataOf h o) in
+    let c : List Float = conjugated h (dataOf h o) in let lc : length c ≡ 2 * h = length-conjugated h (dataOf h o) in
     let g : dataOf h o1 ≡ c = ap (dataOf h) e1 ∙ front-data h c o lc in
     let f : s1 ≡ c ++ drop (2 * h) s = e2 ∙ ap (pasted s 0) g ∙ front-pasted s c (2 * h) lc in
     e3 ∙ ap₂ (λ (u v : List Float). pasted u (2 * h) v) f g ∙ both-pasted h c s lc c lc
@@ -122,7 +108,8 @@ ran-pad (suc n) e = omega arith
 
 -- what the stages make of Data and the other buffer, restored
 module _ (p : Record) (W : ℕ) (tw s o : List Float) (room : 4 * p .half ≤ length s) (other : 2 * p .half ≤ length o)
-    (d e : List Float) (ed : d ≡ runOf p W tw (dataOf (p .half) s, dataOf (p .half) o) .0) (ee : e ≡ runOf p W tw (dataOf (p .half) s, dataOf (p .half) o) .1) where
+    (d e : List Float) (ed : d ≡ runOf p W tw (dataOf (p .half) s, dataOf (p .half) o) .0)
+    (ee : e ≡ runOf p W tw (dataOf (p .half) s, dataOf (p .half) o) .1) where
   abbrev h : ℕ
   h = p .half
 
@@ -139,38 +126,30 @@ module _ (p : Record) (W : ℕ) (tw s o : List Float) (room : 4 * p .half ≤ le
       (ap length ed ∙ l .0, ap length ee ∙ l .1)
 
   pub from-data : (s3 o3 : List Float) → resultIn (p .count) ≡ Data
-      → s3 ≡ withBoth h (conjugated h (dataOf h (d ++ drop (2 * h) s)), cond (ltb 0 (p .count)) (dataOf h (e ++ drop (2 * h) o)) (padOf h (d ++ drop (2 * h) s))) (d ++ drop (2 * h) s)
-      → o3 ≡ conjugated h (dataOf h (d ++ drop (2 * h) s)) ++ drop (2 * h) (e ++ drop (2 * h) o)
-      → (s3 ≡ withBoth h left s) × (o3 ≡ left .0 ++ drop (2 * h) o)
+      → s3 ≡ withBoth h
+      (conjugated h (dataOf h (d ++ drop (2 * h) s)), cond (ltb 0 (p .count)) (dataOf h (e ++ drop (2 * h) o)) (padOf h (d ++ drop (2 * h) s)))
+      (d ++ drop (2 * h) s)
+      → o3 ≡ conjugated h (dataOf h (d ++ drop (2 * h) s)) ++ drop (2 * h) (e ++ drop (2 * h) o) → (s3 ≡ withBoth h left s) × (o3 ≡ left .0 ++ drop (2 * h) o)
   from-data s3 o3 told es eo =
       let w = within-beside p W tw (dataOf h s) s o (data-length h s room) room other (ltb 0 (p .count)) refl d e ed ee in
       let fd : dataOf h (d ++ drop (2 * h) s) ≡ run .0 = front-data h d s (lens .0) ∙ w .0 in
       let fe : cond (ltb 0 (p .count)) (dataOf h (e ++ drop (2 * h) o)) (padOf h (d ++ drop (2 * h) s)) ≡ run .1
       = ap₂ (λ (u v : List Float). cond (ltb 0 (p .count)) u v) (front-data h e o (lens .1)) (front-pad h d s (lens .0)) ∙ w .1 in
       let back : _≡_ {A = Two Float} (conjugated h (run .0), run .1) left = ap (λ (k : Buffer). restored h k run) (sym told) in (
-        es
-            ∙ ap₂ (λ (u v : List Float). conjugated h u ++ v ++ drop (4 * h) (d ++ drop (2 * h) s)) fd fe
-            ∙ ap (λ (t : List Float). conjugated h (run .0) ++ run .1 ++ t) (front-rest h d s (lens .0))
-            ∙ ap (λ (b : Two Float). withBoth h b s) back,
-        eo
-            ∙ ap₂ (λ (u v : List Float). conjugated h u ++ v) fd (front-drop h e o (lens .1))
-            ∙ ap (λ (b : Two Float). b .0 ++ drop (2 * h) o) back,
+        es ∙ ap₂ (λ (u v : List Float). conjugated h u ++ v ++ drop (4 * h) (d ++ drop (2 * h) s)) fd fe
+            ∙ ap (λ (t : List Float). conjugated h (run .0) ++ run .1 ++ t) (front-rest h d s (lens .0)) ∙ ap (λ (b : Two Float). withBoth h b s) back,
+        eo ∙ ap₂ (λ (u v : List Float). conjugated h u ++ v) fd (front-drop h e o (lens .1)) ∙ ap (λ (b : Two Float). b .0 ++ drop (2 * h) o) back,
       )
 
   pub from-pad : (s3 o3 : List Float) → resultIn (p .count) ≡ Scratchpad
       → s3 ≡ withBoth h (conjugated h (dataOf h (e ++ drop (2 * h) o)), conjugated h (dataOf h (e ++ drop (2 * h) o))) (d ++ drop (2 * h) s)
-      → o3 ≡ conjugated h (dataOf h (e ++ drop (2 * h) o)) ++ drop (2 * h) (e ++ drop (2 * h) o)
-      → (s3 ≡ withBoth h left s) × (o3 ≡ left .0 ++ drop (2 * h) o)
+      → o3 ≡ conjugated h (dataOf h (e ++ drop (2 * h) o)) ++ drop (2 * h) (e ++ drop (2 * h) o) → (s3 ≡ withBoth h left s) × (o3 ≡ left .0 ++ drop (2 * h) o)
   from-pad s3 o3 told es eo =
       let w = within-beside p W tw (dataOf h s) s o (data-length h s room) room other true (lt-ltb 0 (p .count) (ran-pad (p .count) told)) d e ed ee in
       let fe : dataOf h (e ++ drop (2 * h) o) ≡ run .1 = front-data h e o (lens .1) ∙ w .1 in
       let back : _≡_ {A = Two Float} (conjugated h (run .1), conjugated h (run .1)) left = ap (λ (k : Buffer). restored h k run) (sym told) in (
-        es
-            ∙ ap₂ (λ (u v : List Float). conjugated h u ++ conjugated h u ++ v) fe (front-rest h d s (lens .0))
-            ∙ ap (λ (b : Two Float). withBoth h b s) back,
-        eo
-            ∙ ap₂ (λ (u v : List Float). conjugated h u ++ v) fe (front-drop h e o (lens .1))
-            ∙ ap (λ (b : Two Float). b .0 ++ drop (2 * h) o) back,
+        es ∙ ap₂ (λ (u v : List Float). conjugated h u ++ conjugated h u ++ v) fe (front-rest h d s (lens .0)) ∙ ap (λ (b : Two Float). withBoth h b s) back,
+        eo ∙ ap₂ (λ (u v : List Float). conjugated h u ++ v) fe (front-drop h e o (lens .1)) ∙ ap (λ (b : Two Float). b .0 ++ drop (2 * h) o) back,
       )
 
 module _ (p : Record) (W : ℕ) (stage end xs s : List Float) (some : 0 < p .half) (room : 4 * p .half ≤ length s) where
@@ -205,16 +184,17 @@ module _ (p : Record) (W : ℕ) (stage end xs s : List Float) (some : 0 < p .hal
     back-is : back ≡ ended-with
     unfolding inverseRun
     back-is =
-        let h = p .half in
-        let long = length-conjugated h (dataOf h q) in
+        let h = p .half in let long = length-conjugated h (dataOf h q) in
         ap (λ (c : Two Float). restored h (resultIn (p .count)) (runOf p W stage c))
-        (two {b = (dataOf h s1, padOf h s1)} {c = started} (ap (dataOf h) e1 ∙ front-data h (started .0) q long) (ap (padOf h) e1 ∙ front-pad h (started .0) q long))
+        (two {b = (dataOf h s1, padOf h s1)} {c = started} (ap (dataOf h) e1 ∙ front-data h (started .0) q long)
+        (ap (padOf h) e1 ∙ front-pad h (started .0) q long))
 
     pub invert-made : (s3 : List Float) (n : ℕ) → s3 ≡ withBoth (p .half) back s1 → s3 ≡ inverseOf p W stage end xs s n .1
     unfolding inverseOf
     invert-made s3 n e3 =
         let h = p .half in
-        let rest : drop (4 * h) s1 ≡ drop (4 * h) s = ap (drop (4 * h)) e1 ∙ front-rest h (started .0) q (length-conjugated h (dataOf h q)) ∙ prepared-rest h end xs s some room in
+        let rest : drop (4 * h) s1 ≡ drop (4 * h) s = ap (drop (4 * h)) e1 ∙ front-rest h (started .0) q (length-conjugated h (dataOf h q))
+        ∙ prepared-rest h end xs s some room in
         e3 ∙ ap₂ (λ (c : Two Float) (t : List Float). c .0 ++ c .1 ++ t) back-is rest
 
     -- the samples are Data's, and +0 beyond

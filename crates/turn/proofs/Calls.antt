@@ -1,7 +1,5 @@
 -- The answer of a single turn, refused and accepted. Assumes nothing.
-use Prim.Native.Nat.{ℕ, _%_}
-use mathlib.Core.Path.{_≡_, _∙_}
-use mathlib.Core.Bool.{true, false}
+use Rattle.sequences.proofs.Basics.{_≡_, _∙_, ℕ, _%_, true, false}
 use Rattle.refusal.specs.declared.Refusal.the-variants.{NotHoused}
 use Rattle.refusal.specs.declared.Verdict.the-variants.{Accepted, Refused}
 use Rattle.turn.specs.declared.Turn.{Turn}
@@ -14,7 +12,6 @@ pub refused : (t L : ℕ) → housed L ≡ false → Turns t L (record { verdict
 unfolding turned turnVerdict
 refused t L h = record { answer = simp h }
 
-pub accepted : (t L : ℕ) (turn : Turn) → housed L ≡ true → turn ≡ turnOf (part (t % L) L)
-    → Turns t L (record { verdict = Accepted; turn = turn })
+pub accepted : (t L : ℕ) (turn : Turn) → housed L ≡ true → turn ≡ turnOf (part (t % L) L) → Turns t L (record { verdict = Accepted; turn = turn })
 unfolding turned turnVerdict
 accepted t L turn h e = let w : turn ≡ turnOf (part t L) = e ∙ turn-mod t L h in record { answer = simp (h, w) }

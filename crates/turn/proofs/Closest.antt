@@ -1,12 +1,7 @@
 -- The whole number nearest to a / b, ties to even. Assumes nothing.
-use Prim.Native.Nat.{ℕ, _*_, _/_, _%_, _^_, _<_, _≤_, compare, Ordering, Ordering·lt, Ordering·eq, Ordering·gt}
-use native.Mathlib.Nat.{mul-one, zero-lt-suc, div-one, mod-one, le-trans, div-lt-iff-lt-mul, le-div-iff-mul-le}
-use native.Mathlib.Omega.{arith}
-use mathlib.Core.Path.{_≡_, refl, ap, _∙_, subst}
-use mathlib.Core.Bool.{not}
-use lib.Arith.{lt-of-le-ne}
-use lib.Dec.{T, eqb, isLe, isEq, leb→le, nleb→lt, eqb→eq, eqb-refl}
-use lib.Pow.{pow-pos}
+use Rattle.sequences.proofs.Basics.{_≡_, refl, ap, _∙_, subst, ℕ, _*_, _/_, _%_, _^_, _<_, _≤_, compare, Ordering, Ordering·lt, Ordering·eq, Ordering·gt}
+use Rattle.sequences.proofs.Basics.{mul-one, zero-lt-suc, div-one, mod-one, le-trans, div-lt-iff-lt-mul, le-div-iff-mul-le, arith, not, T, eqb, isLe, isEq}
+use Rattle.sequences.proofs.Basics.{leb→le, nleb→lt, eqb→eq, eqb-refl, pow-pos, lt-of-le-ne}
 use lib.Ieee.{nearest}
 use lib.Ieee.Fits.{nearest-le}
 use lib.Ieee.Nearest.{closest, closest-same, nearest-ge}
@@ -20,8 +15,7 @@ Compared Ordering·gt a b = b < a
 compared : (a b : ℕ) → Compared (compare a b) a b
 compared a b = go (compare a b) (leb→le a b) (nleb→lt a b) (eqb→eq a b) (λ (e : a ≡ b). subst (λ (x : ℕ). T (eqb a x)) e (eqb-refl a))
   where
-    go : (o : Ordering) → (T (isLe o) → a ≤ b) → (T (not (isLe o)) → b < a) → (T (isEq o) → a ≡ b) → (a ≡ b → T (isEq o))
-        → Compared o a b
+    go : (o : Ordering) → (T (isLe o) → a ≤ b) → (T (not (isLe o)) → b < a) → (T (isEq o) → a ≡ b) → (a ≡ b → T (isEq o)) → Compared o a b
     go Ordering·lt h k e n = lt-of-le-ne (h tt) n
     go Ordering·eq h k e n = e tt
     go Ordering·gt h k e n = k tt

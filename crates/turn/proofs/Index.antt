@@ -1,10 +1,6 @@
 -- Which parts of a circle the table serves, and their index: reduced, scaled, and that of whole quarters. Assumes nothing.
-use Prim.Native.Nat.{ℕ, zero, suc, _+_, _*_, _/_, _%_, _<_}
-use native.Mathlib.Nat.{mod-lt, mod-mod, mod-eq-of-lt, zero-mul, mul-comm, mul-assoc, mul-div-cancel, div-add-mod', mul-lt-mul-of-pos-right}
-use native.Mathlib.Omega.{arith}
-use mathlib.Core.Path.{_≡_, sym, ap, _∙_, subst}
-use mathlib.Core.Bool.{true, false, true≢false}
-use borrow.Author.Tests.{eqb-true}
+use Rattle.sequences.proofs.Basics.{_≡_, sym, ap, _∙_, subst, ℕ, zero, suc, _+_, _*_, _/_, _%_, _<_, mod-lt, mod-mod, mod-eq-of-lt, zero-mul, mul-comm}
+use Rattle.sequences.proofs.Basics.{mul-assoc, mul-div-cancel, div-add-mod', mul-lt-mul-of-pos-right, arith, true, false, true≢false, eqb-true}
 use Rattle.turn.specs.Calls.{part}
 use Rattle.turn.specs.Turns.{housed, indexOf, turnAt, turnOf, quarters}
 use Rattle.turn.proofs.Lookup.{turn-whole}
@@ -29,8 +25,7 @@ part-pos L h = pos (6720 / L) (housed-parts L h)
 
 -- t parts below L are less than the circle
 below : (L : ℕ) → housed L ≡ true → (t : ℕ) → t < L → t * (6720 / L) < 6720
-below L h t l =
-    subst (λ (x : ℕ). t * (6720 / L) < x) (mul-comm L (6720 / L) ∙ housed-parts L h) (mul-lt-mul-of-pos-right l (part-pos L h))
+below L h t l = subst (λ (x : ℕ). t * (6720 / L) < x) (mul-comm L (6720 / L) ∙ housed-parts L h) (mul-lt-mul-of-pos-right l (part-pos L h))
 
 -- t * d turned round the circle of L * d parts
 round : (t L d : ℕ) → t * d ≡ t / L * (d * L) + t % L * d
@@ -40,10 +35,8 @@ round t L d = omega (arith, ap (λ (x : ℕ). x * d) (div-add-mod' t L))
 pub index-is : (t L : ℕ) → housed L ≡ true → indexOf (part t L) ≡ t % L * (6720 / L)
 unfolding indexOf
 index-is t L h =
-    let p = housed-parts L h in
-    let d = 6720 / L in
-    ap (λ (x : ℕ). t * x / L % 6720) (sym p)
-    ∙ ap (λ (x : ℕ). x / L % 6720) (sym (mul-assoc t d L))
+    let p = housed-parts L h in let d = 6720 / L in
+    ap (λ (x : ℕ). t * x / L % 6720) (sym p) ∙ ap (λ (x : ℕ). x / L % 6720) (sym (mul-assoc t d L))
     ∙ ap (λ (x : ℕ). x % 6720) (mul-div-cancel (t * d) (housed-pos L h) ∙ round t L d ∙ ap (λ (x : ℕ). t / L * x + t % L * d) p)
     ∙ rest (t / L) (t % L * d) (below L h (t % L) (mod-lt t (housed-pos L h)))
   where
@@ -58,8 +51,7 @@ turn-mod t L h = ap turnAt (index-is (t % L) L h ∙ ap (λ (x : ℕ). x * (6720
 -- t below L
 pub index-below : (t L : ℕ) → housed L ≡ true → t < L → (t * (6720 / L) < 6720) × (turnOf (part t L) ≡ turnAt (t * (6720 / L)))
 unfolding turnOf
-index-below t L h l =
-    (below L h t l, ap turnAt (index-is t L h ∙ ap (λ (x : ℕ). x * (6720 / L)) (mod-eq-of-lt l)))
+index-below t L h l = (below L h t l, ap turnAt (index-is t L h ∙ ap (λ (x : ℕ). x * (6720 / L)) (mod-eq-of-lt l)))
 
 -- q whole quarters
 pub whole-quarters : (t L q : ℕ) → housed L ≡ true → t < L → 4 * t ≡ q * L → turnOf (part t L) ≡ quarters q

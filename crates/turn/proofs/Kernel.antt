@@ -1,15 +1,8 @@
 -- The kernels' turns: by their key, 8 * r + t, and those of whole quarters. Assumes nothing.
-use Prim.Native.Nat.{ℕ, zero, suc, _+_, _*_, _/_, _%_, _<_, _≤_}
-use native.Mathlib.Nat.{not-suc-le-zero, le-of-suc-le-suc, eq-or-lt-of-le, div-add-mod'}
-use native.Mathlib.Omega.{arith}
-use mathlib.Core.Path.{_≡_, sym, ap₂, _∙_, subst}
-use mathlib.Core.Logic.{inl, inr}
-use mathlib.Core.Bool.{Bool, true, false, _&&_, _||_}
-use mathlib.Core.List.{List, [], _∷_}
-use lib.Dec.{T, eqb, eqb→eq}
+use Rattle.sequences.proofs.Basics.{_≡_, sym, ap₂, _∙_, subst, ℕ, zero, suc, _+_, _*_, _/_, _%_, _<_, _≤_, not-suc-le-zero, le-of-suc-le-suc, eq-or-lt-of-le}
+use Rattle.sequences.proofs.Basics.{div-add-mod', arith, Bool, true, false, _&&_, _||_, inl, inr, List, [], _∷_, T, eqb, eqb→eq, eq-eqb}
 use lib.Ieee.{round, ofBits, neg}
 use lib.Ieee.Fits.{and-l, and-r}
-use borrow.Author.Tests.{eq-eqb}
 use Rattle.radices.proofs.Products.{Radix, radix-is, radix-least}
 use Rattle.turn.specs.declared.Turn.{Turn}
 use Rattle.turn.specs.Calls.{part, KernelPart}
@@ -29,9 +22,7 @@ byKey k = turnOf (part (k % 8) (k / 8))
 pub keyed : (t r k : ℕ) (turn : Turn) → turn ≡ byKey k → KernelPart t r → 8 * r + t ≡ k → turn ≡ turnOf (part t r)
 unfolding byKey
 keyed t r k turn v a e =
-    let s = small a in
-    let x : k % 8 ≡ t = omega arith in
-    let y : k / 8 ≡ r = omega arith in
+    let s = small a in let x : k % 8 ≡ t = omega arith in let y : k / 8 ≡ r = omega arith in
     v ∙ ap₂ (λ (t r : ℕ). turnOf (part t r)) x y
 
 -- ---- past the keys of the turns that carry numbers
@@ -90,8 +81,7 @@ radix-checked r (inr (inr (inr (inr (inr e))))) = rw e tt
 pub quartered : (t r : ℕ) → KernelPart t r → Past (8 * r + t) keys → quarters (4 * t / r) ≡ turnOf (part t r)
 unfolding housed
 quartered t r a z =
-    let d = eqb (6720 % r) 0 in
-    let b = radix-checked r (radix-is r (a .radix)) in
+    let d = eqb (6720 % r) 0 in let b = radix-checked r (radix-is r (a .radix)) in
     let s = all-below-at (sorted r) r (and-r d (allBelow (sorted r) r) b) t (a .below) in
     let e = eqb→eq (4 * t % r) 0 (past-among (8 * r + t) keys (eqb (4 * t % r) 0) z s) in
     let h = eq-eqb (6720 % r) 0 (eqb→eq (6720 % r) 0 (and-l d (allBelow (sorted r) r) b)) in

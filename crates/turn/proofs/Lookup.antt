@@ -1,16 +1,7 @@
 -- An entry of the table under its quarters and its signs is the turn at its index. Assumes nothing.
-use Prim.Native.Nat.{ℕ, zero, suc, _-_, _/_, _%_, _^_, _<_, _≤_}
-use native.Mathlib.Nat.{mod-lt, zero-lt-suc, not-suc-le-zero}
-use native.Mathlib.Omega.{arith}
-use mathlib.Core.Path.{_≡_, refl, sym, ap, ap₂, _∙_, subst}
-use mathlib.Core.Logic.{dite}
-use mathlib.Core.Bool.{Bool, true, false, cond}
-use mathlib.Core.List.{List}
-use native.Mathlib.Decide.{decLe}
-use lib.Dec.{ltb, eqb}
-use lib.ListN.{length, getD}
+use Rattle.sequences.proofs.Basics.{_≡_, refl, sym, ap, ap₂, _∙_, subst, ℕ, zero, suc, _-_, _/_, _%_, _^_, _<_, _≤_, mod-lt, zero-lt-suc, not-suc-le-zero}
+use Rattle.sequences.proofs.Basics.{arith, decLe, Bool, true, false, cond, dite, List, ltb, eqb, length, getD, lt-ltb, le-ltb, eq-eqb, ne-eqb}
 use lib.Ieee.{Float, binary32, round, neg}
-use borrow.Author.Tests.{lt-ltb, le-ltb, eq-eqb, ne-eqb}
 use Rattle.turn.specs.declared.Turn.{Turn}
 use Rattle.turn.specs.declared.Turn.the-variants.{ThreeQuarter, General}
 use Rattle.turn.specs.declared.inner.lookup.Entry.{Entry}
@@ -43,20 +34,17 @@ module _ {cs ss : List ℕ} (h : House cs ss) where
   -- so an entry read from them is the table's
   pub read-plain : (q b : ℕ) → record { quarter = q; cosine = getD cs b 0; sine = getD ss b 0 } ≡ plain q b
   unfolding plain
-  read-plain q b =
-      ap₂ (λ (cs ss : List ℕ). record { quarter = q; cosine = getD cs b 0; sine = getD ss b 0 }) (h .cos) (h .sin)
+  read-plain q b = ap₂ (λ (cs ss : List ℕ). record { quarter = q; cosine = getD cs b 0; sine = getD ss b 0 }) (h .cos) (h .sin)
 
   pub read-exchanged : (q b : ℕ) → record { quarter = q; cosine = getD ss b 0; sine = getD cs b 0 } ≡ exchanged q b
   unfolding exchanged
-  read-exchanged q b =
-      ap₂ (λ (cs ss : List ℕ). record { quarter = q; cosine = getD ss b 0; sine = getD cs b 0 }) (h .cos) (h .sin)
+  read-exchanged q b = ap₂ (λ (cs ss : List ℕ). record { quarter = q; cosine = getD ss b 0; sine = getD cs b 0 }) (h .cos) (h .sin)
 
 -- what holds of both numbers of each entry of the table, but perhaps of entry 0, holds of those at an index that is not whole quarters
 abbrev pub Both : (ℕ → Type 0) → Entry → Type 0
 Both P e = P (e .cosine) × P (e .sine)
 
-pub entry-has : (P : ℕ → Type 0) (index : ℕ)
-    → ((b : ℕ) → b ≤ 840 → (b ≡ 0 → index % 1680 ≡ 0) → P (cosine b) × P (sine b)) → Both P (entryOf index)
+pub entry-has : (P : ℕ → Type 0) (index : ℕ) → ((b : ℕ) → b ≤ 840 → (b ≡ 0 → index % 1680 ≡ 0) → P (cosine b) × P (sine b)) → Both P (entryOf index)
 unfolding plain exchanged
 entry-has P index each = dite (decLe (index % 1680) 840) low high
   where
@@ -109,8 +97,7 @@ signed-is q c s x y p r e f = go q (numbered c x p e) (numbered s y r f)
 -- ---- the turn at an index
 
 module _ (index : ℕ) where
-  by-rest : (b : Bool) → eqb (index % 1680) 0 ≡ b
-      → turnAt index ≡ cond b (quarters (index / 1680)) (General (numbersAt index .0) (numbersAt index .1))
+  by-rest : (b : Bool) → eqb (index % 1680) 0 ≡ b → turnAt index ≡ cond b (quarters (index / 1680)) (General (numbersAt index .0) (numbersAt index .1))
   unfolding turnAt
   by-rest b e = simp e
 
@@ -127,8 +114,7 @@ unfolding numbersAt
 turn-general index e c s n i x y =
     let f = subst (Both Some) (sym i) (entry-fits index n) in
     signed-is (e .quarter) (e .cosine) (e .sine) c s (f .0 .0) (f .1 .0) x y
-    ∙ ap (λ (e : Entry). both (quartersOn rounded (e .quarter) (e .cosine) (e .sine))) i
-    ∙ turn-numbers index n
+    ∙ ap (λ (e : Entry). both (quartersOn rounded (e .quarter) (e .cosine) (e .sine))) i ∙ turn-numbers index n
 
 -- ---- three whole quarters, or more
 

@@ -1,14 +1,10 @@
 -- c / 2 ^ 60 rounded to binary32 is q * 2 ^ k / 2 ^ 60, where q is the whole number nearest to c / 2 ^ k and k is how many digits c has
 -- beyond 24. Assumes nothing.
-use Prim.Native.Nat.{ℕ, zero, suc, _+_, _-_, _*_, _/_, _%_, _^_, _<_, _≤_}
-use native.Mathlib.Nat.{mul-one, one-mul, mul-pos, mul-assoc, mul-comm, mul-left-comm, mul-right-comm, mul-div-cancel, mul-mod-left, eq-or-lt-of-le, lt-of-not-le, not-le-of-lt, lt-of-lt-of-le, le-trans, le-of-eq, le-refl, zero-lt-suc, mul-lt-mul-of-pos-right, mul-le-mul-right, eq-of-mul-eq-mul-right, mod-eq-of-lt}
-use native.Mathlib.Decide.{decLe}
-use native.Mathlib.Omega.{arith}
-use mathlib.Core.Path.{_≡_, refl, sym, ap, _∙_, subst}
-use mathlib.Core.Logic.{inl, inr, dite}
-use mathlib.Core.Bool.{Bool, true, false, cond, not, true≢false}
-use lib.Dec.{T, ltb, le→leb, lit<}
-use lib.Pow.{pow-add, pow-pos, pow-mono, pow-lt}
+use Rattle.sequences.proofs.Basics.{_≡_, refl, sym, ap, _∙_, subst, ℕ, zero, suc, _+_, _-_, _*_, _/_, _%_, _^_, _<_, _≤_, mul-one, one-mul, mul-pos, mul-assoc}
+use Rattle.sequences.proofs.Basics.{mul-comm, mul-left-comm, mul-right-comm, mul-div-cancel, mul-mod-left, eq-or-lt-of-le, lt-of-not-le, not-le-of-lt}
+use Rattle.sequences.proofs.Basics.{lt-of-lt-of-le, le-trans, le-of-eq, le-refl, zero-lt-suc, mul-lt-mul-of-pos-right, mul-le-mul-right, eq-of-mul-eq-mul-right}
+use Rattle.sequences.proofs.Basics.{mod-eq-of-lt, arith, decLe, Bool, true, false, cond, not, true≢false, inl, inr, dite, T, ltb, le→leb, lit<, pow-add}
+use Rattle.sequences.proofs.Basics.{pow-pos, pow-mono, pow-lt, lt-leb, ne-eqb}
 use lib.Count.{trailingZeros, leadingZeros, leading-length}
 use lib.IntN.{pos}
 use lib.Ieee.{Float, nan, inf, fin, Format, binary32, prec, low, emax, up, down, minus, size, odd, units, round, mul, neg, ofInt, ofBits, ofFields, isNan, nanBits, inFloat}
@@ -19,7 +15,6 @@ use lib.Ieee.Nearest.{closest, closest-same}
 use lib.Ieee.Scale.{round-same}
 use lib.Ieee.Back.{round-whole}
 use lib.Ieee.Bits.{nanBits-is}
-use borrow.Author.Tests.{lt-leb, ne-eqb}
 use Rattle.turn.specs.Rounding.{Beyond}
 use Rattle.turn.proofs.Closest.{closest-exact, closest-one, closest-top, closest-low}
 
@@ -55,9 +50,7 @@ drop-is a k d =
 
 -- so it gives the nearest whole number of 2 ^ k
 round-at : (a k : ℕ) → Digits a k → over a ≡ smallest (closest a (2 ^ k)) (k + 89)
-round-at a k d =
-    round-is binary32 false a (2 ^ 60)
-    ∙ ap (λ (z : ℕ). smallest (closest (a * 2 ^ 149) (2 ^ 60 * 2 ^ z)) z) (drop-is a k d)
+round-at a k d = round-is binary32 false a (2 ^ 60) ∙ ap (λ (z : ℕ). smallest (closest (a * 2 ^ 149) (2 ^ 60 * 2 ^ z)) z) (drop-is a k d)
     ∙ ap (λ (z : ℕ). smallest z (k + 89))
     (closest-same (a * 2 ^ 149) (2 ^ 60 * 2 ^ (k + 89)) a (2 ^ k) (mul-pos (pow-pos 60) (pow-pos (k + 89))) (pow-pos k) cross)
   where
@@ -75,8 +68,7 @@ carried k = omega (arith, pow-add 2 k 1)
 
 smallest-carried : (k : ℕ) → smallest 16777216 k ≡ smallest 8388608 (k + 1)
 unfolding units odd trailingZeros
-smallest-carried k =
-    ap (λ (x : ℕ). cond (ltb x (2 ^ 277)) (fin false 1 (minus (k + 24) 149)) (inf false)) (carried k)
+smallest-carried k = ap (λ (x : ℕ). cond (ltb x (2 ^ 277)) (fin false 1 (minus (k + 24) 149)) (inf false)) (carried k)
     ∙ ap (λ (x : ℕ). cond (ltb (8388608 * 2 ^ (k + 1)) (2 ^ 277)) (fin false 1 (minus x 149)) (inf false)) move
   where
     move : k + 24 ≡ k + 1 + 23
@@ -84,19 +76,14 @@ smallest-carried k =
 
 -- q of 24 digits is exact
 exact-below : (q k : ℕ) → 8388608 ≤ q → q < 16777216 → over (q * 2 ^ k) ≡ smallest q (k + 89)
-exact-below q k l h =
-    round-at (q * 2 ^ k) k (mul-le-mul-right (2 ^ k) l, mul-lt-mul-of-pos-right h (pow-pos k))
+exact-below q k l h = round-at (q * 2 ^ k) k (mul-le-mul-right (2 ^ k) l, mul-lt-mul-of-pos-right h (pow-pos k))
     ∙ ap (λ (x : ℕ). smallest x (k + 89)) (closest-exact q k)
 
 -- and so is 2 ^ 24, the first of 25
 exact : (q k : ℕ) → 8388608 ≤ q → q ≤ 16777216 → over (q * 2 ^ k) ≡ smallest q (k + 89)
 exact q k l h = elim (eq-or-lt-of-le h) [
-  | inl e ↦
-      ap (λ (x : ℕ). over (x * 2 ^ k)) e
-      ∙ ap over (carried k)
-      ∙ exact-below 8388608 (k + 1) (le-refl 8388608) (lit< tt)
-      ∙ ap (smallest 8388608) move
-      ∙ sym (smallest-carried (k + 89))
+  | inl e ↦ ap (λ (x : ℕ). over (x * 2 ^ k)) e ∙ ap over (carried k)
+      ∙ exact-below 8388608 (k + 1) (le-refl 8388608) (lit< tt) ∙ ap (smallest 8388608) move ∙ sym (smallest-carried (k + 89))
       ∙ ap (λ (x : ℕ). smallest x (k + 89)) (sym e)
   | inr l' ↦ exact-below q k l l'
 ]
@@ -108,24 +95,16 @@ same-value : (c k : ℕ) → Beyond c k → over (closest c (2 ^ k) * 2 ^ k) ≡
 same-value c zero b = ap over (mul-one (closest c 1) ∙ closest-one c)
 same-value c (suc k) b =
     let l = b .low (zero-lt-suc k) in
-    exact (closest c (2 ^ suc k)) (suc k) (closest-low c (suc k) 8388608 l) (closest-top c (suc k) 16777216 (b .high))
-    ∙ sym (round-at c (suc k) (l, b .high))
+    exact (closest c (2 ^ suc k)) (suc k) (closest-low c (suc k) 8388608 l) (closest-top c (suc k) 16777216 (b .high)) ∙ sym (round-at c (suc k) (l, b .high))
 
 -- ---- the product of q and 2 ^ (k - 60)
 
 cross-mul : (A q D U D' k : ℕ) → A * 1 ≡ q * D → 1 * U * 2 ^ 149 ≡ 1 * 2 ^ (k + 89) * D' → A * (1 * U) * 2 ^ 60 ≡ q * 2 ^ k * (D * D')
 cross-mul A q D U D' k v w =
     let t : U * 2 ^ 60 ≡ 2 ^ k * D' =
-    eq-of-mul-eq-mul-right (2 ^ 89) (pow-pos 89) (U * 2 ^ 60) (2 ^ k * D')
-    (mul-assoc U (2 ^ 60) (2 ^ 89)
-    ∙ ap (λ (x : ℕ). x * 2 ^ 149) (sym (one-mul U))
-    ∙ w
-    ∙ ap (λ (x : ℕ). x * D') (one-mul (2 ^ (k + 89)) ∙ pow-add 2 k 89)
-    ∙ mul-right-comm (2 ^ k) (2 ^ 89) D') in
-    ap (λ (x : ℕ). A * x * 2 ^ 60) (one-mul U)
-    ∙ mul-assoc A U (2 ^ 60)
-    ∙ ap (λ (x : ℕ). A * x) t
-    ∙ ap (λ (x : ℕ). x * (2 ^ k * D')) (sym (mul-one A) ∙ v)
+    eq-of-mul-eq-mul-right (2 ^ 89) (pow-pos 89) (U * 2 ^ 60) (2 ^ k * D') (mul-assoc U (2 ^ 60) (2 ^ 89) ∙ ap (λ (x : ℕ). x * 2 ^ 149) (sym (one-mul U)) ∙ w
+    ∙ ap (λ (x : ℕ). x * D') (one-mul (2 ^ (k + 89)) ∙ pow-add 2 k 89) ∙ mul-right-comm (2 ^ k) (2 ^ 89) D') in
+    ap (λ (x : ℕ). A * x * 2 ^ 60) (one-mul U) ∙ mul-assoc A U (2 ^ 60) ∙ ap (λ (x : ℕ). A * x) t ∙ ap (λ (x : ℕ). x * (2 ^ k * D')) (sym (mul-one A) ∙ v)
     ∙ simp (mul-assoc, mul-comm)
 
 scale-mul : (x : Float) (q k : ℕ) → HasValue x false q 1 → mul binary32 x (fin false 1 (minus (k + 89) 149)) ≡ over (q * 2 ^ k)
@@ -141,8 +120,7 @@ scale-mul (fin false m e) q k v =
 -- the pattern of 2 ^ (k - 60), field by field
 fields : (k : ℕ) → k ≤ 37 → ofFields binary32 false (suc (66 + k)) 0 ≡ fin false 1 (minus (k + 89) 149)
 unfolding ofFields odd trailingZeros
-fields k h =
-    ap (λ (x : Bool). cond x (inf false) (fin false 1 (minus (66 + k + 23) 149))) (ne-eqb (suc (66 + k)) 255 below)
+fields k h = ap (λ (x : Bool). cond x (inf false) (fin false 1 (minus (66 + k + 23) 149))) (ne-eqb (suc (66 + k)) 255 below)
     ∙ ap (λ (x : ℕ). fin false 1 (minus x 149)) more
   where
     below : suc (66 + k) ≡ 255 → ⊥
@@ -158,9 +136,7 @@ pattern k h =
     ap (λ (x : Bool). ofFields binary32 x (b % 2147483648 / 8388608) (b % 8388608)) (lt-leb 2147483648 b (omega arith))
     ∙ ap (λ (x : ℕ). ofFields binary32 false (x / 8388608) (b % 8388608)) (mod-eq-of-lt below)
     ∙ ap (λ (x : ℕ). ofFields binary32 false x (b % 8388608)) (mul-div-cancel (67 + k) (lit< tt))
-    ∙ ap (λ (x : ℕ). ofFields binary32 false (67 + k) x) (mul-mod-left (67 + k) 8388608)
-    ∙ ap (λ (x : ℕ). ofFields binary32 false x 0) step
-    ∙ fields k h
+    ∙ ap (λ (x : ℕ). ofFields binary32 false (67 + k) x) (mul-mod-left (67 + k) 8388608) ∙ ap (λ (x : ℕ). ofFields binary32 false x 0) step ∙ fields k h
   where
     below : (67 + k) * 8388608 < 2147483648
     below = omega arith
@@ -203,11 +179,8 @@ module _ (c k q : ℕ) (h : k ≤ 37) (b : Beyond c k) (e : q ≡ closest c (2 ^
 
   pub nearest-is : mul binary32 (ofInt binary32 (pos q)) (ofBits binary32 ((67 + k) * 8388608)) ≡ round binary32 false c (2 ^ 60)
   unfolding ofInt
-  nearest-is =
-      ap (λ (y : Float). mul binary32 (round binary32 false q 1) y) (pattern k h)
-      ∙ scale-mul (round binary32 false q 1) q k (round-whole binary32 false q at-most)
-      ∙ ap (λ (x : ℕ). over (x * 2 ^ k)) e
-      ∙ same-value c k b
+  nearest-is = ap (λ (y : Float). mul binary32 (round binary32 false q 1) y) (pattern k h)
+      ∙ scale-mul (round binary32 false q 1) q k (round-whole binary32 false q at-most) ∙ ap (λ (x : ℕ). over (x * 2 ^ k)) e ∙ same-value c k b
 
   -- the cast of q loses nothing
   pub in-float : T (inFloat binary32 (pos q))
@@ -234,8 +207,7 @@ neg-units : (f : Format) (q k : ℕ) → neg (units f false q k) ≡ units f tru
 unfolding units neg
 neg-units f q k =
     let t = ltb (q * 2 ^ k) (2 ^ (low f + suc (emax f))) in
-    neg-cond t (odd (suc (prec f)) false q k (low f)) (inf false)
-    ∙ ap (λ (x : Float). cond t x (inf true)) (neg-odd (suc (prec f)) q k (low f))
+    neg-cond t (odd (suc (prec f)) false q k (low f)) (inf false) ∙ ap (λ (x : Float). cond t x (inf true)) (neg-odd (suc (prec f)) q k (low f))
 
 -- the negated number is rounded to the negated f32
 pub neg-round : (f : Format) (a b : ℕ) → neg (round f false a b) ≡ round f true a b

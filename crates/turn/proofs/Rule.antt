@@ -1,13 +1,7 @@
 -- The house table keeps its rule, and its entries but s(0) are above 0 and at most 2 ^ 60: one test, computed over the whole table.
 -- Assumes nothing.
-use Prim.Native.Nat.{ℕ, zero, suc, _+_, _*_, _^_, _<_, _≤_}
-use native.Mathlib.Nat.{eq-or-lt-of-le, not-suc-le-zero}
-use native.Mathlib.Omega.{arith}
-use mathlib.Core.Path.{_≡_, refl, subst, sym}
-use mathlib.Core.Logic.{inl, inr}
-use mathlib.Core.List.{List, [], _∷_}
-use lib.Dec.{T, lit≤}
-use lib.ListN.{length}
+use Rattle.sequences.proofs.Basics.{_≡_, refl, subst, sym, ℕ, zero, suc, _+_, _*_, _^_, _<_, _≤_, eq-or-lt-of-le, not-suc-le-zero, arith, inl, inr, List, []}
+use Rattle.sequences.proofs.Basics.{_∷_, T, lit≤, length}
 use Rattle.turn.specs.House.{cosines, sines}
 use Rattle.turn.specs.Rule.{cosine, sine, Within, Rule}
 use Rattle.turn.proofs.Table.{Ordered, Neighbours, everywhere, everywhere-at}
@@ -18,12 +12,8 @@ within d x y ps = (x, y + d) ∷ (y, x + d) ∷ ps
 
 -- what is asked of an entry and the next, when entry 1 is (p, q): the rule, and that the next is above 0 and at most 2 ^ 60
 unfoldable asked : (p q : ℕ) → Neighbours
-asked p q c s c' s' =
-    (suc c', c) ∷ (suc s, s')
-    ∷ within (2 ^ 61) (c * c + s * s) (2 ^ 120)
-    (within (2 ^ 61) (c * p) (2 ^ 60 * c' + s * q)
-    (within (2 ^ 61) (s * p + c * q) (2 ^ 60 * s')
-    ((1, c') ∷ (c', 2 ^ 60) ∷ (1, s') ∷ (s', 2 ^ 60) ∷ [])))
+asked p q c s c' s' = (suc c', c) ∷ (suc s, s') ∷ within (2 ^ 61) (c * c + s * s) (2 ^ 120) (within (2 ^ 61) (c * p) (2 ^ 60 * c' + s * q)
+    (within (2 ^ 61) (s * p + c * q) (2 ^ 60 * s') ((1, c') ∷ (c', 2 ^ 60) ∷ (1, s') ∷ (s', 2 ^ 60) ∷ [])))
 
 holds : T (everywhere (asked (cosine 1) (sine 1)) cosines sines)
 unfolding cosines sines asked

@@ -1,11 +1,6 @@
 -- No number of a turn is above 1 in magnitude. Assumes nothing.
-use Prim.Native.Nat.{ℕ, zero, suc, _*_, _^_, _<_, _≤_, zero-le}
-use native.Mathlib.Nat.{zero-lt-suc, le-of-eq, mul-le-mul-right}
-use native.Mathlib.Omega.{arith}
-use mathlib.Core.Path.{_≡_, refl, sym, subst}
-use mathlib.Core.Bool.{Bool, true, false}
-use lib.Dec.{T, lit≤}
-use lib.Pow.{pow-pos}
+use Rattle.sequences.proofs.Basics.{_≡_, refl, sym, subst, ℕ, zero, suc, _*_, _^_, _<_, _≤_, zero-le, zero-lt-suc, le-of-eq, mul-le-mul-right, arith, Bool}
+use Rattle.sequences.proofs.Basics.{true, false, T, lit≤, pow-pos}
 use lib.IntN.{pos}
 use lib.Ieee.{Float, nan, inf, fin, binary32, round, ofBits, neg, up, down, le}
 use lib.Ieee.Order.{round-mono}

@@ -1,10 +1,6 @@
 -- Two lists side by side whose neighbours are in order, by one test that is computed. Assumes nothing.
-use Prim.Native.Nat.{ℕ, zero, suc, _<_, _≤_}
-use native.Mathlib.Nat.{le-of-suc-le-suc, not-suc-le-zero}
-use mathlib.Core.Bool.{Bool, true, false, _&&_}
-use mathlib.Core.List.{List, [], _∷_}
-use lib.Dec.{T, leb, leb→le}
-use lib.ListN.{length, getD}
+use Rattle.sequences.proofs.Basics.{ℕ, zero, suc, _<_, _≤_, le-of-suc-le-suc, not-suc-le-zero, Bool, true, false, _&&_, List, [], _∷_, T, leb, leb→le, length}
+use Rattle.sequences.proofs.Basics.{getD}
 use lib.Ieee.Fits.{and-l, and-r}
 
 -- pairs of which the first is at most the second
@@ -18,8 +14,7 @@ ordered (p ∷ ps) = leb (p .0) (p .1) && ordered ps
 
 pub ordered-is : (ps : List (ℕ × ℕ)) → T (ordered ps) → Ordered ps
 ordered-is [] t = tt
-ordered-is (p ∷ ps) t =
-    (leb→le (p .0) (p .1) (and-l (leb (p .0) (p .1)) (ordered ps) t), ordered-is ps (and-r (leb (p .0) (p .1)) (ordered ps) t))
+ordered-is (p ∷ ps) t = (leb→le (p .0) (p .1) (and-l (leb (p .0) (p .1)) (ordered ps) t), ordered-is ps (and-r (leb (p .0) (p .1)) (ordered ps) t))
 
 -- what is asked of an entry (c, s) and the next
 abbrev pub Neighbours : Type 0
@@ -36,8 +31,7 @@ holds-from : (f : Neighbours) (c s : ℕ) (xs ys : List ℕ) → T (holds f c s 
 holds-from f c s [] ys t k h = absurd (not-suc-le-zero h)
 holds-from f c s (x ∷ xs) [] t k h = absurd t
 holds-from f c s (x ∷ xs) (y ∷ ys) t zero h = ordered-is (f c s x y) (and-l (ordered (f c s x y)) (holds f x y xs ys) t)
-holds-from f c s (x ∷ xs) (y ∷ ys) t (suc k) h =
-    holds-from f x y xs ys (and-r (ordered (f c s x y)) (holds f x y xs ys) t) k (le-of-suc-le-suc h)
+holds-from f c s (x ∷ xs) (y ∷ ys) t (suc k) h = holds-from f x y xs ys (and-r (ordered (f c s x y)) (holds f x y xs ys) t) k (le-of-suc-le-suc h)
 
 -- the same of two whole lists
 abbrev pub everywhere : Neighbours → List ℕ → List ℕ → Bool

@@ -1,12 +1,6 @@
 -- What the definition of a turn gives: whole quarters are at the indices 0, 1,680, 3,360 and 5,040 and nowhere else, and the words that are
 -- stated for them are the table's numbers there, as everywhere. The table's rule is `house-rule` of proofs/Rule.antt. Assumes nothing.
-use Prim.Native.Nat.{ℕ, zero, suc, _*_, _/_, _%_, _<_, _≤_}
-use native.Mathlib.Nat.{mod-lt, zero-lt-suc}
-use native.Mathlib.Omega.{arith}
-use native.Mathlib.Decide.{decLe}
-use mathlib.Core.Path.{_≡_, refl, sym, ap, _∙_}
-use mathlib.Core.Logic.{dite}
-use mathlib.Core.Bool.{false}
+use Rattle.sequences.proofs.Basics.{_≡_, refl, sym, ap, _∙_, ℕ, zero, suc, _*_, _/_, _%_, _<_, _≤_, mod-lt, zero-lt-suc, arith, decLe, false, dite}
 use lib.Ieee.{round, ofBits, neg}
 use Rattle.schedule.specs.Stage.{Part}
 use Rattle.turn.specs.declared.Turn.the-variants.{Zero, Quarter, Half, ThreeQuarter}

@@ -1,10 +1,6 @@
 -- Laws of the circle of the house table: what divides it, and the twiddles of a column as whole steps of it. Assumes nothing.
-use Prim.Native.Nat.{ℕ, _*_, _/_, _%_, _∣_, _<_, _≤_}
-use native.Mathlib.Nat.{mod-lt, dvd-of-mod-eq-zero, mod-eq-zero-of-dvd, dvd-trans, dvd-mul-left, le-of-dvd, mul-le-mul}
-use native.Mathlib.Omega.{arith}
-use mathlib.Core.Path.{_≡_, sym, ap, subst, _∙_}
-use mathlib.Core.Bool.{true}
-use borrow.Author.Tests.{eqb-true, eq-eqb}
+use Rattle.sequences.proofs.Basics.{_≡_, sym, ap, subst, _∙_, ℕ, _*_, _/_, _%_, _∣_, _<_, _≤_, mod-lt, dvd-of-mod-eq-zero, mod-eq-zero-of-dvd, dvd-trans}
+use Rattle.sequences.proofs.Basics.{dvd-mul-left, le-of-dvd, mul-le-mul, arith, true, eqb-true, eq-eqb}
 use Rattle.schedule.specs.Stage.{twiddleTurn}
 use Rattle.turn.specs.Turns.{housed, turnAt, wordsOf}
 use Rattle.turn.proofs.Index.{index-below}

@@ -1,13 +1,7 @@
 -- Laws of the end twiddles: each is a whole number of steps of the circle, and in a row they are all. Assumes nothing.
-use Prim.Native.Nat.{ℕ, zero, suc, _+_, _*_, _/_, _%_, _<_, _≤_}
-use native.Mathlib.Nat.{mul-pos, mul-le-mul-right}
-use native.Mathlib.Numerals.{add-one}
-use native.Mathlib.Omega.{arith}
-use mathlib.Core.Path.{_≡_, sym, ap, _∙_}
-use mathlib.Core.Bool.{true}
-use mathlib.Core.List.{List}
+use Rattle.sequences.proofs.Basics.{_≡_, sym, ap, _∙_, ℕ, zero, suc, _+_, _*_, _/_, _%_, _<_, _≤_, mul-pos, mul-le-mul-right, add-one, arith, true, List}
+use Rattle.sequences.proofs.Basics.{length}
 use lib.Ieee.{Float, nan}
-use lib.ListN.{length}
 use Rattle.counts.specs.Counts.{endCount}
 use Rattle.turn.specs.Turns.{housed, turnAt, wordsOf}
 use Rattle.turn.specs.declared.Turn.{Turn}
@@ -43,13 +37,14 @@ module _ (n : ℕ) (h : housed n ≡ true) where
   end-index k l = index-below (k + 1) n h (inside k l) .0
 
   -- the words that the code finds are those of the next end twiddle
-  pub end-next : (d : Direction) (k : ℕ) → k < endCount n → (t : Turn) (v w : Float × Float) → t ≡ turnAt ((k + 1) * (6720 / n)) → v ≡ wordsOf t → w ≡ directed d v
+  pub end-next : (d : Direction) (k : ℕ) → k < endCount n → (t : Turn) (v w : Float × Float) → t ≡ turnAt ((k + 1) * (6720 / n)) → v ≡ wordsOf t
+      → w ≡ directed d v
       → w ≡ endTwiddle d n (suc k)
   unfolding endTwiddle
-  end-next d k l t v w et ev ew =
-      ew ∙ ap (directed d) (ev ∙ ap wordsOf (et ∙ sym (index-below (k + 1) n h (inside k l) .1))) ∙ rw (add-one)
+  end-next d k l t v w et ev ew = ew ∙ ap (directed d) (ev ∙ ap wordsOf (et ∙ sym (index-below (k + 1) n h (inside k l) .1))) ∙ rw (add-one)
 
 -- written one after the other they are all
-pub ends-done : (d : Direction) (n k : ℕ) (ys out : List Float) → length ys ≡ 2 * endCount n → k ≡ endCount n → out ≡ putPairs 0 1 (endTwiddle d n) ys k → out ≡ endWords d n
+pub ends-done : (d : Direction) (n k : ℕ) (ys out : List Float) → length ys ≡ 2 * endCount n → k ≡ endCount n → out ≡ putPairs 0 1 (endTwiddle d n) ys k
+    → out ≡ endWords d n
 unfolding endWords
 ends-done d n k ys out e ek eo = eo ∙ ap (putPairs 0 1 (endTwiddle d n) ys) ek ∙ puts-row nan (endTwiddle d n) ys (endCount n) e

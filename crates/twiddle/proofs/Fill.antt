@@ -1,11 +1,5 @@
 -- How a loop fills a stage, iteration by iteration: what is written stays in place, and at the end every twiddle is. Assumes nothing.
-use mathlib.Core.Path.{_≡_, sym, _∙_}
-use mathlib.Core.List.{List}
-use Prim.Native.Nat.{ℕ, zero, suc, _+_, _-_, _*_, _≤_, _<_}
-use native.Mathlib.Nat.{zero-add}
-use native.Mathlib.Omega.{arith}
-use native.Mathlib.Decide.{ℕ-discrete}
-use lib.ListN.{length}
+use Rattle.sequences.proofs.Basics.{_≡_, sym, _∙_, ℕ, zero, suc, _+_, _-_, _*_, _≤_, _<_, zero-add, arith, ℕ-discrete, List, length}
 use Rattle.twiddle.specs.Places.{place, iterationAt, numberAt}
 use Rattle.twiddle.specs.Words.{packed, putPair, putPairs, At}
 use Rattle.twiddle.proofs.Places.{stands, found, place-one}
@@ -26,14 +20,13 @@ module _ {A : Type 0} (d : A) (M r W : ℕ) (width : 0 < W) (f : ℕ → ℕ →
   -- when all are placed the stage is filled
   pub all-placed : (ys : List A) → length ys ≡ 2 * (M * (r - 1)) → Placed d M r W f ys M → ys ≡ packed M r W f
   unfolding packed
-  all-placed ys e placed =
-      pairs-all d ys (M * (r - 1)) 0 _ e
-      (λ p l.
+  all-placed ys e placed = pairs-all d ys (M * (r - 1)) 0 _ e (λ p l.
       let t = found M r W width p l in
       rw (zero-add) (rw (t .here) at (placed (iterationAt M r W p) (numberAt M r W p) (t .early) (t .first) (t .last))))
 
   -- Iteration i, whose twiddles stand from `first` on, so many places apart
-  module _ (i first apart : ℕ) (li : i < M) (here : (k : ℕ) → k < r - 1 → place M r W i (suc k) ≡ first + k * apart) (ys : List A) (e : length ys ≡ 2 * (M * (r - 1))) where
+  module _ (i first apart : ℕ) (li : i < M) (here : (k : ℕ) → k < r - 1 → place M r W i (suc k) ≡ first + k * apart) (ys : List A)
+      (e : length ys ≡ 2 * (M * (r - 1))) where
     written : ℕ → List A
     written n = putPairs first apart (f i) ys n
 
@@ -43,11 +36,11 @@ module _ {A : Type 0} (d : A) (M r W : ℕ) (width : 0 < W) (f : ℕ → ℕ →
         let s = stands M r W width i (suc k) (omega arith) (omega arith) li .inside in
         omega (arith, here k l, e, length-puts d first apart (f i) ys k)
 
-    still : (n : ℕ) → n ≤ r - 1 → (i′ k′ : ℕ) → i′ < i → 1 ≤ k′ → k′ < r → At d ys (place M r W i′ k′) (f i′ k′) → At d (written n) (place M r W i′ k′) (f i′ k′)
+    still : (n : ℕ) → n ≤ r - 1 → (i′ k′ : ℕ) → i′ < i → 1 ≤ k′ → k′ < r → At d ys (place M r W i′ k′) (f i′ k′)
+        → At d (written n) (place M r W i′ k′) (f i′ k′)
     unfolding written putPairs
     still zero l i′ k′ li′ a b t = t
-    still (suc k) l i′ k′ li′ a b t =
-        put-still d (written k) (first + k * apart) (place M r W i′ k′) (f i (suc k)) (f i′ k′)
+    still (suc k) l i′ k′ li′ a b t = put-still d (written k) (first + k * apart) (place M r W i′ k′) (f i (suc k)) (f i′ k′)
         (λ g. omega (arith, li′, place-one M r W width i′ k′ i (suc k) (omega arith) li a b (omega arith) (omega arith) (g ∙ sym (here k l)) .0))
         (still k (omega arith) i′ k′ li′ a b t)
 
@@ -56,12 +49,11 @@ module _ {A : Type 0} (d : A) (M r W : ℕ) (width : 0 < W) (f : ℕ → ℕ →
     placed zero l k a b = absurd (omega arith)
     placed (suc n) l k a b = pick (ℕ-discrete k (suc n)) (placed n (omega arith) k a)
       where
-        pick : Dec (k ≡ suc n) → (k ≤ n → At d (written n) (place M r W i k) (f i k)) → At d (putPair (written n) (first + n * apart) (f i (suc n))) (place M r W i k) (f i k)
+        pick : Dec (k ≡ suc n) → (k ≤ n → At d (written n) (place M r W i k) (f i k))
+            → At d (putPair (written n) (first + n * apart) (f i (suc n))) (place M r W i k) (f i k)
         pick (yes g) t = rw (g, here n l) (put-here d (written n) (first + n * apart) (f i (suc n)) (fits n l))
-        pick (no g) t =
-            put-still d (written n) (first + n * apart) (place M r W i k) (f i (suc n)) (f i k)
-            (λ h. g (place-one M r W width i k i (suc n) li li a (omega arith) (omega arith) (omega arith) (h ∙ sym (here n l)) .1))
-            (t (omega arith))
+        pick (no g) t = put-still d (written n) (first + n * apart) (place M r W i k) (f i (suc n)) (f i k)
+            (λ h. g (place-one M r W width i k i (suc n) li li a (omega arith) (omega arith) (omega arith) (h ∙ sym (here n l)) .1)) (t (omega arith))
 
     -- one iteration more
     pub placed-next : Placed d M r W f ys i → Placed d M r W f (putPairs first apart (f i) ys (r - 1)) (i + 1)

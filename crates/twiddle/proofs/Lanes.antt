@@ -1,8 +1,5 @@
 -- Laws of lanes: the twiddles of an iteration stand so many places apart, and the numbers that tell where are small. Assumes nothing.
-use Prim.Native.Nat.{ℕ, suc, _+_, _-_, _*_, _/_, _%_, _<_, _≤_}
-use native.Mathlib.Nat.{mul-le-mul, div-le-self}
-use native.Mathlib.Omega.{arith}
-use mathlib.Core.Path.{_≡_, _∙_}
+use Rattle.sequences.proofs.Basics.{_≡_, _∙_, ℕ, suc, _+_, _-_, _*_, _/_, _%_, _<_, _≤_, mul-le-mul, div-le-self, arith}
 use Rattle.twiddle.specs.Places.{inLanes, place}
 use Rattle.twiddle.proofs.Places.{suc-less, lane-place, lone-place}
 

@@ -1,13 +1,8 @@
 -- Laws of places: the twiddles k from 1 to r - 1 of the iterations i below M stand at the places below M * (r - 1), each at one of its own, at any width.
 -- Assumes nothing.
-use mathlib.Core.Path.{_≡_, refl, sym, ap, _∙_}
-use mathlib.Core.Bool.{Bool, true, false}
-use Prim.Native.Nat.{ℕ, suc, _+_, _-_, _*_, _/_, _%_, _≤_, _<_}
-use native.Mathlib.Nat.{mod-lt, div-add-mod', div-lt-iff-lt-mul, le-div-iff-mul-le, mul-le-mul-right, mod-mod-of-dvd, dvd-mul-right, mul-pos}
-use native.Mathlib.Omega.{arith}
-use lib.Dec.{ltb}
-use lib.Arith.{digits-div, digits-mod, digits-lt}
-use borrow.Author.Tests.{lt-ltb, le-ltb, ltb-true, ltb-false}
+use Rattle.sequences.proofs.Basics.{_≡_, refl, sym, ap, _∙_, ℕ, suc, _+_, _-_, _*_, _/_, _%_, _≤_, _<_, mod-lt, div-add-mod', div-lt-iff-lt-mul}
+use Rattle.sequences.proofs.Basics.{le-div-iff-mul-le, mul-le-mul-right, mod-mod-of-dvd, dvd-mul-right, mul-pos, arith, Bool, true, false, ltb, digits-div}
+use Rattle.sequences.proofs.Basics.{digits-mod, digits-lt, lt-ltb, le-ltb, ltb-true, ltb-false}
 use Rattle.schedule.proofs.Cells.{pos-right}
 use Rattle.twiddle.specs.Places.{inLanes, place, iterationAt, numberAt, Stands, Found}
 
@@ -81,8 +76,7 @@ module _ (M r W : ℕ) (width : 0 < W) where
   -- so two that stand at the same place are the same
   pub place-one : (i k i′ k′ : ℕ) → i < M → i′ < M → 1 ≤ k → k < r → 1 ≤ k′ → k′ < r → place M r W i k ≡ place M r W i′ k′ → (i ≡ i′) × (k ≡ k′)
   place-one i k i′ k′ li li′ f l f′ l′ e =
-      let a = stands i k f l li in
-      let b = stands i′ k′ f′ l′ li′ in
+      let a = stands i k f l li in let b = stands i′ k′ f′ l′ li′ in
       (sym (a .iteration) ∙ ap (iterationAt M r W) e ∙ b .iteration, sym (a .number) ∙ ap (numberAt M r W) e ∙ b .number)
 
   module _ (p : ℕ) (inside : p < M * (r - 1)) where
@@ -103,8 +97,7 @@ module _ (M r W : ℕ) (width : 0 < W) where
           early = omega (arith, early, div-add-mod' M W);
           first = omega arith;
           last = omega (arith, number);
-          here =
-              simp (lt-ltb _ _ early, digits-div (p / (W * (r - 1))) (mod-lt p width), digits-mod (p / (W * (r - 1))) (mod-lt p width), suc-less)
+          here = simp (lt-ltb _ _ early, digits-div (p / (W * (r - 1))) (mod-lt p width), digits-mod (p / (W * (r - 1))) (mod-lt p width), suc-less)
               (omega (arith, div-add-mod' p (W * (r - 1)), div-add-mod' (p % (W * (r - 1))) W, mod-mod-of-dvd W p (dvd-mul-right W (r - 1))));
         })
 

@@ -1,11 +1,6 @@
 -- Laws of filling a stage: what its iterations ask for, and that each puts its twiddles in place. Assumes nothing.
-use Prim.Native.Nat.{ℕ, suc, _+_, _-_, _*_, _/_, _%_, _<_, _≤_}
-use native.Mathlib.Nat.{mul-le-mul-right}
-use native.Mathlib.Omega.{arith}
-use mathlib.Core.Path.{_≡_, ap, _∙_}
-use mathlib.Core.List.{List}
+use Rattle.sequences.proofs.Basics.{_≡_, ap, _∙_, ℕ, suc, _+_, _-_, _*_, _/_, _%_, _<_, _≤_, mul-le-mul-right, arith, List, length}
 use lib.Ieee.{Float, nan}
-use lib.ListN.{length}
 use Rattle.turn.specs.Turns.{turnAt, wordsOf}
 use Rattle.twiddle.specs.Calls.{Shape, Lanes, Turnable}
 use Rattle.twiddle.specs.Twiddles.{twiddle}
@@ -46,9 +41,9 @@ module _ (M s r W words : ℕ) (shape : Shape M s r W words) (i : ℕ) (li : i <
 
   -- the twiddles that the code finds are those of the iteration
   same-twiddles : (ys : List Float)
-      → putPairs (l .first) (l .apart) (λ k. wordsOf (turnAt (k * (l .column * (6720 / (s * r)))))) ys (r - 1) ≡ putPairs (l .first) (l .apart) (twiddle s r i) ys (r - 1)
-  same-twiddles ys =
-      puts-equal nan (l .first) (l .apart) _ (twiddle s r i) ys (r - 1)
+      → putPairs (l .first) (l .apart) (λ k. wordsOf (turnAt (k * (l .column * (6720 / (s * r)))))) ys (r - 1) ≡ putPairs (l .first) (l .apart)
+      (twiddle s r i) ys (r - 1)
+  same-twiddles ys = puts-equal nan (l .first) (l .apart) _ (twiddle s r i) ys (r - 1)
       (λ k lk. ap (λ (n : ℕ). wordsOf (turnAt (suc k * n))) same-step ∙ twiddle-steps s r i (shape .columns) (shape .circle) (suc k) (omega arith))
 
   -- one iteration more

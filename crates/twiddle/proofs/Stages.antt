@@ -1,14 +1,7 @@
 -- Laws of filling the stages of an accepted plan one after the other. Assumes nothing.
-use Prim.Native.Nat.{ℕ, zero, suc, _+_, _-_, _*_, _/_, _<_, _≤_}
-use native.Mathlib.Nat.{le-of-lt, div-le-self}
-use native.Mathlib.Numerals.{add-one}
-use native.Mathlib.Omega.{arith}
-use mathlib.Core.Path.{_≡_, refl, sym, ap, ap₂, _∙_}
-use mathlib.Core.Bool.{true}
-use mathlib.Core.List.{List, _++_, append-assoc}
+use Rattle.sequences.proofs.Basics.{_≡_, refl, sym, ap, ap₂, _∙_, ℕ, zero, suc, _+_, _-_, _*_, _/_, _<_, _≤_, le-of-lt, div-le-self, add-one, arith, true, List}
+use Rattle.sequences.proofs.Basics.{_++_, append-assoc, length, getD, take, drop, length-append, take-at, take-all, length-take-le}
 use lib.Ieee.{Float, nan}
-use lib.ListN.{length, getD, take, drop, length-append}
-use lib.Seq.{take-at, take-all, length-take-le}
 use borrow.Rule.Slice.PartMut.{midOf, putMid, same-len-mid, mid-len}
 use Rattle.counts.specs.Counts.{radix, stride, twiddleCount, twiddleStart, stageTwiddles}
 use Rattle.radices.specs.Lists.{product}
@@ -60,8 +53,7 @@ module _ (p : Record) (W words : ℕ) (h : Packable p W words) where
     -- what filling it asks for
     pub stage-shape : (room : ℕ) → room ≡ start (j + 1) - start j → Shape (p .half / r) s r W room
     stage-shape room e =
-        let bounds = plan-radix-bounds p (h .planned) j known in
-        let width = width-bounds W (h .width) in
+        let bounds = plan-radix-bounds p (h .planned) j known in let width = width-bounds W (h .width) in
         record {
           iterations = omega (arith, div-le-self (p .half) r, plan-half p (h .planned));
           columns = rw same-stride (use-stride-some p (h .planned) j known);
@@ -78,7 +70,8 @@ module _ (p : Record) (W words : ℕ) (h : Packable p W words) where
     unfolding stageWords
     stage-words = rw (same-stride, same-radix) (at j later)
       where
-        at : (j : ℕ) → 1 ≤ j → packed (p .half / radix (inUse p) j) (radix (inUse p) j) W (twiddle (stride (inUse p) j) (radix (inUse p) j)) ≡ stageWords (p .half) (inUse p) W j
+        at : (j : ℕ) → 1 ≤ j → packed (p .half / radix (inUse p) j)
+            (radix (inUse p) j) W (twiddle (stride (inUse p) j) (radix (inUse p) j)) ≡ stageWords (p .half) (inUse p) W j
         at zero l = absurd (omega arith)
         at (suc j) l = refl
 
@@ -107,11 +100,10 @@ module _ (p : Record) (W words : ℕ) (h : Packable p W words) where
           let room : length part ≡ start (j + 1) - start j = ap length d ∙ length-packed nan (p .half / r) r W (twiddle s r) ∙ sym part-long in
           let front : length (take (start j) ys) ≡ start j = length-take-le (start j) ys (omega (arith, part-inside, part-up)) in
           let seam : length (take (start j) ys ++ part) ≡ start (j + 1) = omega (arith, length-append (take (start j) ys) part, part-up) in (
-            ap length here ∙ same-len-mid (start j) (start (j + 1) - start j) ys part (room ∙ sym (mid-len (start j) (start (j + 1)) ys (omega (arith, part-inside)))) ∙ e,
-            ap (take (start (j + 1))) (here ∙ sym (append-assoc (take (start j) ys) part _))
-                ∙ take-at (take (start j) ys ++ part) _ (start (j + 1)) seam
-                ∙ ap₂ (λ (xs zs : List Float). xs ++ zs) done (d ∙ stage-words)
-                ∙ ap (stagesWords (p .half) (inUse p) W) (sym (add-one j)),
+            ap length here ∙ same-len-mid (start j) (start (j + 1) - start j) ys part (room
+                ∙ sym (mid-len (start j) (start (j + 1)) ys (omega (arith, part-inside)))) ∙ e,
+            ap (take (start (j + 1))) (here ∙ sym (append-assoc (take (start j) ys) part _)) ∙ take-at (take (start j) ys ++ part) _ (start (j + 1)) seam
+                ∙ ap₂ (λ (xs zs : List Float). xs ++ zs) done (d ∙ stage-words) ∙ ap (stagesWords (p .half) (inUse p) W) (sym (add-one j)),
           )
 
   -- all stages

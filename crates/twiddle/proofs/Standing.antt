@@ -1,12 +1,7 @@
 -- Where a stage's twiddles stand among those of all stages. Assumes nothing.
-use Prim.Native.Nat.{ℕ, zero, suc, _+_, _-_, _*_, _/_, _<_, _≤_}
-use native.Mathlib.Omega.{arith}
-use native.Mathlib.Decide.{ℕ-discrete}
-use mathlib.Core.Path.{_≡_, refl, ap, ap₂, _∙_}
-use mathlib.Core.List.{List, _++_}
+use Rattle.sequences.proofs.Basics.{_≡_, refl, ap, ap₂, _∙_, ℕ, zero, suc, _+_, _-_, _*_, _/_, _<_, _≤_, arith, ℕ-discrete, List, _++_, length, getD}
+use Rattle.sequences.proofs.Basics.{length-append, List·getD-append, getD-append-add, getD-take}
 use lib.Ieee.{Float}
-use lib.ListN.{length, getD, length-append, List·getD-append}
-use lib.Seq.{getD-append-add, getD-take}
 use Rattle.counts.specs.Counts.{radix, stride, twiddleCount, twiddleStart}
 use Rattle.plan.specs.declared.Record.{Record}
 use Rattle.counts.proofs.Counts.{start-next, start-up}
@@ -22,11 +17,7 @@ use Rattle.twiddle.proofs.Words.{length-packed}
 
 module _ {A : Type 0} (d : A) (xs ys : List A) (w : A × A) where
   at-before : (q : ℕ) → 2 * q + 1 < length xs → At d xs q w → At d (xs ++ ys) q w
-  at-before q l a =
-      record {
-        first = List·getD-append xs ys d (2 * q) (omega arith) ∙ a .first;
-        second = List·getD-append xs ys d (2 * q + 1) l ∙ a .second;
-      }
+  at-before q l a = record { first = List·getD-append xs ys d (2 * q) (omega arith) ∙ a .first; second = List·getD-append xs ys d (2 * q + 1) l ∙ a .second }
 
   at-after : (b q : ℕ) → length xs ≡ 2 * b → At d ys q w → At d (xs ++ ys) (b + q) w
   at-after b q e a =
@@ -57,12 +48,14 @@ module _ (d : Float) (h : ℕ) (rs : List ℕ) (W : ℕ) where
   stage-at j q w lq a zero l = absurd (omega arith)
   stage-at j q w lq a (suc n) l = pick (ℕ-discrete j n) (stage-at j q w lq a n)
     where
-      pick : Dec (j ≡ n) → (j < n → At d (stagesWords h rs W n) (twiddleStart h rs j + q) w) → At d (stagesWords h rs W n ++ stageWords h rs W n) (twiddleStart h rs j + q) w
+      pick : Dec (j ≡ n) → (j < n → At d (stagesWords h rs W n) (twiddleStart h rs j + q) w)
+          → At d (stagesWords h rs W n ++ stageWords h rs W n) (twiddleStart h rs j + q) w
       pick (yes e) f = rw (← e) (at-after d (stagesWords h rs W j) (stageWords h rs W j) w (twiddleStart h rs j) q (length-stages j) a)
       pick (no e) f =
           let more : j + 1 + (n - (j + 1)) ≡ n = omega arith in
           let up : twiddleStart h rs (j + 1) ≤ twiddleStart h rs n = rw more at (start-up h rs (j + 1) (n - (j + 1))) in
-          at-before d (stagesWords h rs W n) (stageWords h rs W n) w (twiddleStart h rs j + q) (omega (arith, up, length-stages n, start-next h rs j)) (f (omega arith))
+          at-before d (stagesWords h rs W n) (stageWords h rs W n) w (twiddleStart h rs j + q) (omega (arith, up, length-stages n, start-next h rs j))
+          (f (omega arith))
 
   -- twiddle k of iteration i of stage j
   pub twiddle-at : (n j i k : ℕ) → 0 < W → 1 ≤ j → j < n → i < h / radix rs j → 1 ≤ k → k < radix rs j
@@ -70,8 +63,7 @@ module _ (d : Float) (h : ℕ) (rs : List ℕ) (W : ℕ) where
   unfolding stageWords twiddleCount
   twiddle-at n zero i k width later l li first last = absurd (omega arith)
   twiddle-at n (suc j) i k width later l li first last =
-      let M = h / radix rs (suc j) in
-      let r = radix rs (suc j) in
+      let M = h / radix rs (suc j) in let r = radix rs (suc j) in
       stage-at (suc j) (place M r W i k) (twiddle (stride rs (suc j)) r i k) (stands M r W width i k first last li .inside)
       (packed-at d M r W width (twiddle (stride rs (suc j)) r) i k li first last) n l
 

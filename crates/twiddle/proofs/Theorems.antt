@@ -1,12 +1,7 @@
 -- What a reader opens first: where each twiddle stands in what a filling leaves, at every width, and that it is the schedule's turn.
 -- That two outcomes of a call are equal is `Fills-one` of proofs/Unique.antt. Assumes nothing.
-use Prim.Native.Nat.{ℕ, _+_, _-_, _*_, _/_, _<_, _≤_}
-use native.Mathlib.Nat.{le-of-lt}
-use native.Mathlib.Omega.{arith}
-use mathlib.Core.Path.{_≡_, sym, ap, _∙_}
-use mathlib.Core.Bool.{true, false}
+use Rattle.sequences.proofs.Basics.{_≡_, sym, ap, _∙_, ℕ, _+_, _-_, _*_, _/_, _<_, _≤_, le-of-lt, arith, true, false, length, getD}
 use lib.Ieee.{Float}
-use lib.ListN.{length, getD}
 use Rattle.refusal.specs.Refusal.{left}
 use Rattle.refusal.specs.declared.Refusal.{Refusal}
 use Rattle.refusal.specs.declared.Verdict.{Verdict}
@@ -44,7 +39,8 @@ module _ (M r W : ℕ) (width : 0 < W) where
 
 -- ---- an accepted filling
 
-module _ (d : Direction) (p : Record) (W : ℕ) (before : Slices) (r : Verdict) (after : Slices) (fills : Fills d p W before r after) (accepted : r ≡ Accepted) where
+module _ (d : Direction) (p : Record) (W : ℕ) (before : Slices) (r : Verdict) (after : Slices) (fills : Fills d p W before r after)
+    (accepted : r ≡ Accepted) where
   -- what the answer tells
   tells : Taken p W (length (before .0)) (length (before .1))
   tells = taken p W (length (before .0)) (length (before .1)) r (fills .answer) accepted
@@ -58,8 +54,7 @@ module _ (d : Direction) (p : Record) (W : ℕ) (before : Slices) (r : Verdict) 
       → At z (after .0) (twiddleStart (p .half) (p .radices) j + place (p .half / radix (inUse p) j) (radix (inUse p) j) W i k)
       (wordsOf (turnOf (twiddleTurn (stride (inUse p) j) (radix (inUse p) j) i k)))
   unfolding twiddle
-  filled-twiddle z j i k later known li first last =
-      rw (leaves, ← use-start p j (le-of-lt known))
+  filled-twiddle z j i k later known li first last = rw (leaves, ← use-start p j (le-of-lt known))
       (twiddle-at z (p .half) (inUse p) W (p .count) j i k (width-bounds W (tells .width) .0) later known li first last)
 
   -- end twiddle k stands at place k - 1
@@ -70,18 +65,19 @@ module _ (d : Direction) (p : Record) (W : ℕ) (before : Slices) (r : Verdict) 
       rw leaves (rw same at (pairs-at z (endCount (p .n)) 1 (endTwiddle d (p .n)) (k - 1) (omega arith)))
 
 -- the words of a twiddle are the same at every width, and in both directions
-module _ (c d : Direction) (p : Record) (W W′ : ℕ) (xs ys xs′ ys′ : Slices) (r s : Verdict) (one : Fills c p W xs r xs′) (two : Fills d p W′ ys s ys′) (taken-one : r ≡ Accepted)
+module _ (c d : Direction) (p : Record) (W W′ : ℕ) (xs ys xs′ ys′ : Slices) (r s : Verdict) (one : Fills c p W xs r xs′) (two : Fills d p W′ ys s ys′)
+    (taken-one : r ≡ Accepted)
     (taken-two : s ≡ Accepted) where
   pub same-words : (z : Float) (j i k : ℕ) → 1 ≤ j → j < p .count → i < p .half / radix (inUse p) j → 1 ≤ k → k < radix (inUse p) j → (e : ℕ) → e < 2
       → getD (xs′ .0) (2 * (twiddleStart (p .half) (p .radices) j + place (p .half / radix (inUse p) j) (radix (inUse p) j) W i k) + e) z
       ≡ getD (ys′ .0) (2 * (twiddleStart (p .half) (p .radices) j + place (p .half / radix (inUse p) j) (radix (inUse p) j) W′ i k) + e) z
-  same-words z j i k later known li first last =
-      at-same z _ _ _ _ _ (filled-twiddle c p W xs r xs′ one taken-one z j i k later known li first last)
+  same-words z j i k later known li first last = at-same z _ _ _ _ _ (filled-twiddle c p W xs r xs′ one taken-one z j i k later known li first last)
       (filled-twiddle d p W′ ys s ys′ two taken-two z j i k later known li first last)
 
 -- ---- a refused filling writes nothing
 
-pub refused-keeps : (d : Direction) (p : Record) (W : ℕ) (before : Slices) (r : Verdict) (after : Slices) → Fills d p W before r after → (why : Refusal) → r ≡ Refused why → after ≡ before
+pub refused-keeps : (d : Direction) (p : Record) (W : ℕ) (before : Slices) (r : Verdict) (after : Slices) → Fills d p W before r after → (why : Refusal)
+    → r ≡ Refused why → after ≡ before
 refused-keeps d p W before r after fills why e = fills .cells ∙ ap (λ (v : Verdict). left v (filled d p W) before) (sym (fills .answer) ∙ e)
 
 -- ---- no end twiddle is a whole quarter

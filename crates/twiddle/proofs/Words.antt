@@ -1,20 +1,14 @@
 -- Laws of pairs of words in a list: what stands where, and what writing one keeps. Assumes nothing.
-use mathlib.Core.Path.{_≡_, refl, sym, ap, ap₂, _∙_}
-use mathlib.Core.List.{List}
-use Prim.Native.Nat.{ℕ, zero, suc, _+_, _-_, _*_, _/_, _%_, _≤_, _<_}
-use native.Mathlib.Nat.{not-suc-le-zero}
-use native.Mathlib.Numerals.{add-one}
-use native.Mathlib.Omega.{arith}
-use native.Mathlib.Decide.{ℕ-discrete}
-use lib.ListN.{length, getD, set, length-set}
-use lib.Seq.{getD-set-same, getD-set-other, ext-getD}
+use Rattle.sequences.proofs.Basics.{_≡_, refl, sym, ap, ap₂, _∙_, ℕ, zero, suc, _+_, _-_, _*_, _/_, _%_, _≤_, _<_, not-suc-le-zero, add-one, arith, ℕ-discrete}
+use Rattle.sequences.proofs.Basics.{List, length, getD, set, length-set, getD-set-same, getD-set-other, ext-getD}
 use Rattle.twiddle.specs.Words.{pairs, packed, putPair, putPairs, At}
 
 module _ {A : Type 0} (d : A) where
   -- lists with the same pair have the same words
   pub at-same : (xs ys : List A) (p q : ℕ) (w : A × A) → At d xs p w → At d ys q w → (e : ℕ) → e < 2 → getD xs (2 * p + e) d ≡ getD ys (2 * q + e) d
   at-same xs ys p q w a b zero l =
-      ap (λ (n : ℕ). getD xs n d) {x = 2 * p + 0} {y = 2 * p} (omega arith) ∙ a .first ∙ sym (b .first) ∙ ap (λ (n : ℕ). getD ys n d) {x = 2 * q} {y = 2 * q + 0} (omega arith)
+      ap (λ (n : ℕ). getD xs n d) {x = 2 * p + 0} {y = 2 * p} (omega arith) ∙ a .first ∙ sym (b .first)
+      ∙ ap (λ (n : ℕ). getD ys n d) {x = 2 * q} {y = 2 * q + 0} (omega arith)
   at-same xs ys p q w a b (suc zero) l = a .second ∙ sym (b .second)
   at-same xs ys p q w a b (suc (suc e)) l = absurd (omega arith)
 
@@ -36,8 +30,7 @@ module _ {A : Type 0} (d : A) where
       let same : n + 0 ≡ n = omega arith in
       rw same (record { first = refl; second = refl })
   pairs-at (suc k) n f (suc p) l =
-      let next = pairs-at k (suc n) f p (omega arith) in
-      let same : n + suc p ≡ suc n + p = omega arith in
+      let next = pairs-at k (suc n) f p (omega arith) in let same : n + suc p ≡ suc n + p = omega arith in
       let even : 2 * suc p ≡ suc (suc (2 * p)) = omega arith in
       let odd : 2 * suc p + 1 ≡ suc (suc (2 * p + 1)) = omega arith in
       rw same
@@ -78,9 +71,7 @@ module _ {A : Type 0} (d : A) where
   unfolding putPair
   put-here ys p w l =
       record {
-        first =
-            getD-set-other (set ys (2 * p) (w .0)) (2 * p + 1) (2 * p) (w .1) d (λ e. omega (arith, e))
-            ∙ getD-set-same ys (2 * p) (w .0) d (omega arith);
+        first = getD-set-other (set ys (2 * p) (w .0)) (2 * p + 1) (2 * p) (w .1) d (λ e. omega (arith, e)) ∙ getD-set-same ys (2 * p) (w .0) d (omega arith);
         second = getD-set-same (set ys (2 * p) (w .0)) (2 * p + 1) (w .1) d (omega (arith, length-set ys (2 * p) (w .0)));
       }
 
@@ -89,14 +80,10 @@ module _ {A : Type 0} (d : A) where
   unfolding putPair
   put-still ys p q w v other a =
       record {
-        first =
-            getD-set-other (set ys (2 * p) (w .0)) (2 * p + 1) (2 * q) (w .1) d (λ e. omega (arith, e))
-            ∙ getD-set-other ys (2 * p) (2 * q) (w .0) d (λ e. other (omega (arith, e)))
-            ∙ a .first;
-        second =
-            getD-set-other (set ys (2 * p) (w .0)) (2 * p + 1) (2 * q + 1) (w .1) d (λ e. other (omega (arith, e)))
-            ∙ getD-set-other ys (2 * p) (2 * q + 1) (w .0) d (λ e. omega (arith, e))
-            ∙ a .second;
+        first = getD-set-other (set ys (2 * p) (w .0)) (2 * p + 1) (2 * q) (w .1) d (λ e. omega (arith, e))
+            ∙ getD-set-other ys (2 * p) (2 * q) (w .0) d (λ e. other (omega (arith, e))) ∙ a .first;
+        second = getD-set-other (set ys (2 * p) (w .0)) (2 * p + 1) (2 * q + 1) (w .1) d (λ e. other (omega (arith, e)))
+            ∙ getD-set-other ys (2 * p) (2 * q + 1) (w .0) d (λ e. omega (arith, e)) ∙ a .second;
       }
 
   pub length-puts : (first apart : ℕ) (f : ℕ → A × A) (ys : List A) (n : ℕ) → length (putPairs first apart f ys n) ≡ length ys
@@ -112,13 +99,15 @@ module _ {A : Type 0} (d : A) where
   puts-none first apart f ys = refl
 
   -- one pair more
-  pub puts-next : (first apart : ℕ) (f : ℕ → A × A) (ys zs out : List A) (k p : ℕ) (w : A × A) → zs ≡ putPairs first apart f ys k → p ≡ first + k * apart → w ≡ f (suc k)
+  pub puts-next : (first apart : ℕ) (f : ℕ → A × A) (ys zs out : List A) (k p : ℕ) (w : A × A) → zs ≡ putPairs first apart f ys k → p ≡ first + k * apart
+      → w ≡ f (suc k)
       → out ≡ putPair zs p w → out ≡ putPairs first apart f ys (k + 1)
   unfolding putPairs
   puts-next first apart f ys zs out k p w ez ep ew e = e ∙ rw (ez, ep, ew, add-one)
 
   -- what is written rests on the pairs written
-  pub puts-equal : (first apart : ℕ) (f g : ℕ → A × A) (ys : List A) (n : ℕ) → ((k : ℕ) → k < n → f (suc k) ≡ g (suc k)) → putPairs first apart f ys n ≡ putPairs first apart g ys n
+  pub puts-equal : (first apart : ℕ) (f g : ℕ → A × A) (ys : List A) (n : ℕ) → ((k : ℕ) → k < n → f (suc k) ≡ g (suc k))
+      → putPairs first apart f ys n ≡ putPairs first apart g ys n
   unfolding putPairs
   puts-equal first apart f g ys zero same = refl
   puts-equal first apart f g ys (suc n) same =
@@ -127,8 +116,7 @@ module _ {A : Type 0} (d : A) where
   -- in a row from the first place on they fill the list
   pub puts-row : (f : ℕ → A × A) (ys : List A) (k : ℕ) → length ys ≡ 2 * k → putPairs 0 1 f ys k ≡ pairs k 1 f
   unfolding putPairs
-  puts-row f ys k e =
-      pairs-all (putPairs 0 1 f ys k) k 1 f (length-puts 0 1 f ys k ∙ e)
+  puts-row f ys k e = pairs-all (putPairs 0 1 f ys k) k 1 f (length-puts 0 1 f ys k ∙ e)
       (λ p l. let same : 1 + p ≡ suc p = omega arith in rw same (row k (omega arith) p l))
     where
       row : (n : ℕ) → n ≤ k → (p : ℕ) → p < n → At d (putPairs 0 1 f ys n) p (f (suc p))

@@ -1,21 +1,13 @@
 -- `counts::end_twiddles` meets its contract. Assumes nothing.
-use mathlib.Core.Path.{sym}
+use Rattle.sequences.proofs.Basics.{sym, arith, needs}
 use Rattle.refusal.proofs.Rows.{accepted}
 use Rattle.counts.proofs.Counts.{record-refused, record-accepted}
 use Rattle.plan.proofs.Bounds.{plan-half, plan-sized}
-use borrow.Author.Needs.{needs}
-use native.Mathlib.Omega.{arith}
-use Rattle.counts.proofs.end_twiddles.Statement.{statement}
-use Rattle.counts.proofs.end_twiddles.Tie as tie
+use Rattle.counts.proofs.end_twiddles as fn
 
-returns : tie.Need-returns
-returns c = record { answer = sym (simp (record-refused (c .before .before .args .plan) (search accepted))) }
-
-end-count-requires : tie.Need-end-count-requires
-end-count-requires c κs = let h = plan-half (c .before .before .args .plan) (search accepted) in let s = plan-sized (c .before .before .args .plan) (search accepted) in omega (arith, h, s .twice)
-
-returns-2 : tie.Need-returns-2
-returns-2 c = record { answer = sym (simp (record-accepted (c .before .before .before .args .plan) (search accepted), ← c .end-count .ensures)) }
-
-pub end-twiddles-spec : {M : Type 1} → statement M
-end-twiddles-spec = tie.close (tie.spec (λ c κs. search needs) returns end-count-requires returns-2)
+pub end-twiddles-spec : {M : Type 1} → fn.Statement.statement M
+end-twiddles-spec = fn.Tie.close (fn.Tie.spec (λ c κs. search needs)
+    (λ c. record { answer = sym (simp (record-refused (c .before .before .args .plan) (search accepted))) })
+    (λ c κs. let h = plan-half (c .before .before .args .plan) (search accepted) in let s = plan-sized (c .before .before .args .plan) (search accepted) in
+    omega (arith, h, s .twice))
+    (λ c. record { answer = sym (simp (record-accepted (c .before .before .before .args .plan) (search accepted), ← c .end-count .ensures)) }))

@@ -1,22 +1,13 @@
 -- `counts::stage_twiddles` meets its contract. Assumes nothing.
-use mathlib.Core.Path.{sym}
+use Rattle.sequences.proofs.Basics.{sym, arith, needs}
 use Rattle.refusal.proofs.Rows.{accepted}
 use Rattle.counts.proofs.Counts.{record-refused, record-accepted}
-use borrow.Author.Needs.{needs}
-use native.Mathlib.Omega.{arith}
-use Rattle.counts.proofs.stage_twiddles.Statement.{statement}
-use Rattle.counts.proofs.stage_twiddles.Tie as tie
+use Rattle.counts.proofs.stage_twiddles as fn
 
-returns : tie.Need-returns
-returns c = record { answer = sym (simp (record-refused (c .before .before .args .plan) (search accepted))) }
-
-twiddle-start-requires : tie.Need-twiddle-start-requires
-twiddle-start-requires c κs = (search accepted, omega arith)
-
-returns-2 : tie.Need-returns-2
-returns-2 c = record { answer = sym (simp (record-accepted (c .before .before .before .args .plan) (search accepted), ← c .twiddle-start .ensures)) }
-
-pub stage-twiddles-spec : {M : Type 1} → statement M
-stage-twiddles-spec =
-    tie.close
-    (tie.spec (λ c κs. search needs) returns twiddle-start-requires returns-2)
+pub stage-twiddles-spec : {M : Type 1} → fn.Statement.statement M
+stage-twiddles-spec = fn.Tie.close
+    (fn.Tie.spec (λ c κs. search needs) (λ c. record { answer = sym (simp (record-refused (c .before .before .args .plan) (search accepted))) })
+    (λ c κs. (search accepted, omega arith)) (λ c. record {
+      answer =
+          sym (simp (record-accepted (c .before .before .before .args .plan) (search accepted), ← c .twiddle-start .ensures));
+    }))

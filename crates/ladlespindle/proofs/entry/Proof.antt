@@ -1,12 +1,6 @@
 -- `entry` meets its promise: past 13 entries there is none. Assumes nothing.
-use borrow.Author.Needs.{needs}
-use mathlib.Core.Path.{sym}
-use lib.ListN.{List·getD-eq-default}
-use Rattle.ladlespindle.proofs.entry.Statement.{statement}
-use Rattle.ladlespindle.proofs.entry.Tie as tie
+use Rattle.sequences.proofs.Basics.{sym, List·getD-eq-default, needs}
+use Rattle.ladlespindle.proofs.entry as fn
 
-returns-2 : tie.Need-returns-2
-returns-2 c = sym (List·getD-eq-default (c .before .args .t1) 0 (search needs))
-
-pub entry-spec : {M : Type 1} → statement M
-entry-spec = tie.close (tie.spec (λ c. search needs) (λ c. search needs) returns-2)
+pub entry-spec : {M : Type 1} → fn.Statement.statement M
+entry-spec = fn.Tie.close (fn.Tie.spec (λ c. search needs) (λ c. search needs) (λ c. sym (List·getD-eq-default (c .before .args .t1) 0 (search needs))))

@@ -1,15 +1,14 @@
 -- `ladlespindle::ladlespindle_forward` meets its contract. Assumes nothing.
 use Rattle.ladlespindle.proofs.Crossing.{crossed-over}
-use borrow.Author.Needs.{needs}
-use Rattle.ladlespindle.proofs.ladlespindle_forward.Statement.{statement}
-use Rattle.ladlespindle.proofs.ladlespindle_forward.Tie as tie
+use Rattle.sequences.proofs.Basics.{needs}
+use Rattle.ladlespindle.proofs.ladlespindle_forward as fn
 
-returns : tie.Need-returns
+returns : fn.Tie.Need-returns
 returns c =
     let o = c .before .before .before .before .before .before .forward in
-    crossed-over _ _ _ (o .result) (o .last .1 .1 .1 .0, o .last .1 .1 .1 .1 .0) _ _ (o .ensures) (c .before .number .ensures .answer) (c .place .ensures .answer)
+    crossed-over _ _ _ (o .result) (o .last .1 .1 .1 .0, o .last .1 .1 .1 .1 .0) _ _ (o .ensures) (c .before .number .ensures .answer)
+    (c .place .ensures .answer)
 
-pub ladlespindle-forward-spec : {M : Type 1} → statement M
-ladlespindle-forward-spec =
-    tie.close
-    (tie.spec (λ c κs. search needs) (λ c κs. search needs) (λ c κs. search needs) (λ c. search needs) (λ c. search needs) returns)
+pub ladlespindle-forward-spec : {M : Type 1} → fn.Statement.statement M
+ladlespindle-forward-spec = fn.Tie.close
+    (fn.Tie.spec (λ c κs. search needs) (λ c κs. search needs) (λ c κs. search needs) (λ c. search needs) (λ c. search needs) returns)

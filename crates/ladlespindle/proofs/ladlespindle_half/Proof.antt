@@ -1,12 +1,8 @@
 -- `ladlespindle_half` meets its promise: the half in the answer of planning. Assumes nothing.
-use borrow.Author.Needs.{needs}
-use mathlib.Core.Path.{ap}
+use Rattle.sequences.proofs.Basics.{ap, needs}
 use Rattle.plan.specs.declared.Planned.{Planned}
-use Rattle.ladlespindle.proofs.ladlespindle_half.Statement.{statement}
-use Rattle.ladlespindle.proofs.ladlespindle_half.Tie as tie
+use Rattle.ladlespindle.proofs.ladlespindle_half as fn
 
-returns : tie.Need-returns
-returns c = record { answer = ap (λ (a : Planned). a .plan .half) (c .plan .ensures .answer) }
-
-pub ladlespindle-half-spec : {M : Type 1} → statement M
-ladlespindle-half-spec = tie.close (tie.spec (λ c κs. search needs) returns)
+pub ladlespindle-half-spec : {M : Type 1} → fn.Statement.statement M
+ladlespindle-half-spec = fn.Tie.close (fn.Tie.spec (λ c κs. search needs)
+    (λ c. record { answer = ap (λ (a : Planned). a .plan .half) (c .plan .ensures .answer) }))

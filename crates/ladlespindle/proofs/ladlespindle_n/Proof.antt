@@ -1,12 +1,7 @@
 -- `ladlespindle_n` meets its promise: the length in the answer of planning. Assumes nothing.
-use borrow.Author.Needs.{needs}
-use mathlib.Core.Path.{ap}
+use Rattle.sequences.proofs.Basics.{ap, needs}
 use Rattle.plan.specs.declared.Planned.{Planned}
-use Rattle.ladlespindle.proofs.ladlespindle_n.Statement.{statement}
-use Rattle.ladlespindle.proofs.ladlespindle_n.Tie as tie
+use Rattle.ladlespindle.proofs.ladlespindle_n as fn
 
-returns : tie.Need-returns
-returns c = record { answer = ap (λ (a : Planned). a .plan .n) (c .plan .ensures .answer) }
-
-pub ladlespindle-n-spec : {M : Type 1} → statement M
-ladlespindle-n-spec = tie.close (tie.spec (λ c κs. search needs) returns)
+pub ladlespindle-n-spec : {M : Type 1} → fn.Statement.statement M
+ladlespindle-n-spec = fn.Tie.close (fn.Tie.spec (λ c κs. search needs) (λ c. record { answer = ap (λ (a : Planned). a .plan .n) (c .plan .ensures .answer) }))

@@ -1,12 +1,8 @@
 -- `ladlespindle_plan` meets its promise: the record of the answer of planning. Assumes nothing.
-use borrow.Author.Needs.{needs}
-use mathlib.Core.Path.{ap}
+use Rattle.sequences.proofs.Basics.{ap, needs}
 use Rattle.plan.specs.declared.Planned.{Planned}
-use Rattle.ladlespindle.proofs.ladlespindle_plan.Statement.{statement}
-use Rattle.ladlespindle.proofs.ladlespindle_plan.Tie as tie
+use Rattle.ladlespindle.proofs.ladlespindle_plan as fn
 
-returns : tie.Need-returns
-returns c = record { answer = ap (λ (a : Planned). a .plan) (c .before .plan .ensures .answer) }
-
-pub ladlespindle-plan-spec : {M : Type 1} → statement M
-ladlespindle-plan-spec = tie.close (tie.spec (λ c κs. search needs) returns)
+pub ladlespindle-plan-spec : {M : Type 1} → fn.Statement.statement M
+ladlespindle-plan-spec = fn.Tie.close (fn.Tie.spec (λ c κs. search needs)
+    (λ c. record { answer = ap (λ (a : Planned). a .plan) (c .before .plan .ensures .answer) }))

@@ -1,15 +1,10 @@
 -- `ladlespindle::ladlespindle_stage` meets its contract. Assumes nothing.
 use Rattle.ladlespindle.proofs.Crossing.{crossed-over}
-use borrow.Author.Needs.{needs}
-use Rattle.ladlespindle.proofs.ladlespindle_stage.Statement.{statement}
-use Rattle.ladlespindle.proofs.ladlespindle_stage.Tie as tie
+use Rattle.sequences.proofs.Basics.{needs}
+use Rattle.ladlespindle.proofs.ladlespindle_stage as fn
 
-returns : tie.Need-returns
-returns c =
-    let o = c .before .before .before .before .stage in
-    crossed-over _ _ _ (o .result) (o .last .1 .1 .1 .1 .0) _ _ (o .ensures) (c .before .number .ensures .answer) (c .place .ensures .answer)
-
-pub ladlespindle-stage-spec : {M : Type 1} → statement M
-ladlespindle-stage-spec =
-    tie.close
-    (tie.spec (λ c κs. search needs) (λ c κs. search needs) (λ c κs. search needs) (λ c. search needs) returns)
+pub ladlespindle-stage-spec : {M : Type 1} → fn.Statement.statement M
+ladlespindle-stage-spec = fn.Tie.close
+    (fn.Tie.spec (λ c κs. search needs) (λ c κs. search needs) (λ c κs. search needs) (λ c. search needs)
+    (λ c. let o = c .before .before .before .before .stage in
+    crossed-over _ _ _ (o .result) (o .last .1 .1 .1 .1 .0) _ _ (o .ensures) (c .before .number .ensures .answer) (c .place .ensures .answer)))

@@ -1,14 +1,8 @@
 -- `plan::accepts` meets its contract. Assumes nothing.
-use mathlib.Core.Path.{sym, _∙_}
+use Rattle.sequences.proofs.Basics.{sym, _∙_, needs}
 use Rattle.plan.proofs.Records.{passes-plannable, plannable-passes}
-use borrow.Author.Needs.{needs}
-use Rattle.plan.proofs.accepts.Statement.{statement}
-use Rattle.plan.proofs.accepts.Tie as tie
+use Rattle.plan.proofs.accepts as fn
 
-returns : tie.Need-returns
-returns c =
-    let p = c .before .args .plan in
-    record { answer = (λ e. passes-plannable p (sym (c .is-planned .ensures) ∙ e), λ e. c .is-planned .ensures ∙ plannable-passes p e) }
-
-pub accepts-spec : {M : Type 1} → statement M
-accepts-spec = tie.close (tie.spec (λ c κs. search needs) returns)
+pub accepts-spec : {M : Type 1} → fn.Statement.statement M
+accepts-spec = fn.Tie.close (fn.Tie.spec (λ c κs. search needs) (λ c. let p = c .before .args .plan in
+    record { answer = (λ e. passes-plannable p (sym (c .is-planned .ensures) ∙ e), λ e. c .is-planned .ensures ∙ plannable-passes p e) }))

@@ -1,12 +1,11 @@
 -- `plan::refused` meets its contract. Assumes nothing.
-use mathlib.Core.Path.{refl}
+use Rattle.sequences.proofs.Basics.{refl}
 use Rattle.plan.specs.Record.{refusedPlan}
-use Rattle.plan.proofs.refused.Statement.{statement}
-use Rattle.plan.proofs.refused.Tie as tie
+use Rattle.plan.proofs.refused as fn
 
-returns : tie.Need-returns
+returns : fn.Tie.Need-returns
 unfolding refusedPlan
 returns c = refl
 
-pub refused-spec : {M : Type 1} → statement M
-refused-spec = tie.close (tie.spec returns)
+pub refused-spec : {M : Type 1} → fn.Statement.statement M
+refused-spec = fn.Tie.close (fn.Tie.spec returns)

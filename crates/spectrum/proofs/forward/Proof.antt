@@ -1,42 +1,40 @@
 -- `spectrum::forward` meets its contract. Assumes nothing.
-use mathlib.Core.Path.{refl, sym, ap, _∙_}
-use mathlib.Core.Bool.{Bool}
-use borrow.Author.Needs.{needs}
-use lib.Dec.{eqb}
+use Rattle.sequences.proofs.Basics.{refl, sym, ap, _∙_, Bool, eqb, length, needs}
 use lib.Ieee.{ofBits}
-use lib.ListN.{length}
 use Rattle.refusal.proofs.Rows.{settles-refused, settles-accepted}
 use Rattle.spectrum.specs.Calls.{lentVerdict}
 use Rattle.spectrum.proofs.Verdicts.{forwardable}
-use Rattle.spectrum.proofs.forward.Statement.{statement}
-use Rattle.spectrum.proofs.forward.Tie as tie
+use Rattle.spectrum.proofs.forward as fn
 
-enum-told : tie.Need-enum-told
-enum-told c = search needs
-
-forward-requires : tie.Need-forward-requires
+forward-requires : fn.Tie.Need-forward-requires
 unfolding ofBits
 forward-requires c κs =
     let a = c .before .before .before .before .before .before .before .before .before .before .before .before .args in
-    forwardable (a .plan) (a .width) _ _ (length (a .input .now)) (length (a .output .now)) (length (a .scratch .now)) 32 (a .input .now) (a .stage-twiddles .now) (a .end-twiddles .now) _ refl (c .before .before .before .before .before .is-bins .ensures) (c .before .before .before .before .lent .ensures 32 refl) (c .before .before .enum-told .given .1)
+    forwardable (a .plan) (a .width) _ _ (length (a .input .now)) (length (a .output .now)) (length (a .scratch .now)) 32 (a .input .now)
+    (a .stage-twiddles .now) (a .end-twiddles .now) _ refl (c .before .before .before .before .before .is-bins .ensures)
+    (c .before .before .before .before .lent .ensures 32 refl) (c .before .before .enum-told .given .1)
 
-returns : tie.Need-returns
+returns : fn.Tie.Need-returns
 unfolding ofBits
 returns c =
-    let a = c .before .before .before .before .before .before .before .before .before .before .before .before .before .before .before .before .before .args in
-    let made = c .before .before .before .before .forward .ensures in
-    let told = c .before .before .before .before .before .before .before .before .before .lent .ensures 32 refl ∙ ap (λ (b : Bool). lentVerdict (a .plan) (a .width) (eqb (length (a .input .now)) (a .plan .n)) b (length (a .scratch .now)) 32 (a .input .now) (a .stage-twiddles .now) (a .end-twiddles .now)) (c .before .before .before .before .before .before .before .before .before .before .is-bins .ensures) in
-    settles-accepted _ _ _ _ (sym (c .before .before .before .before .before .before .before .enum-told .given .1) ∙ told) (λ i. (made .0 i, made .1 i))
+    let c4 = c .before .before .before .before in let c7 = c4 .before .before .before in let c9 = c7 .before .before in
+    let a = c9 .before .before .before .before .before .before .before .before .args in
+    let made = c4 .forward .ensures in
+    let told = c9 .lent .ensures 32 refl ∙ ap (λ (b : Bool). lentVerdict (a .plan) (a .width)
+    (eqb (length (a .input .now)) (a .plan .n)) b (length (a .scratch .now)) 32 (a .input .now) (a .stage-twiddles .now) (a .end-twiddles .now))
+    (c9 .before .is-bins .ensures) in
+    settles-accepted _ _ _ _ (sym (c7 .enum-told .given .1) ∙ told) (λ i. (made .0 i, made .1 i))
 
-returns-2 : tie.Need-returns-2
+returns-2 : fn.Tie.Need-returns-2
 unfolding ofBits
 returns-2 c =
     let a = c .before .before .before .before .before .before .before .before .before .before .before .args in
-    let told = c .before .before .before .lent .ensures 32 refl ∙ ap (λ (b : Bool). lentVerdict (a .plan) (a .width) (eqb (length (a .input .now)) (a .plan .n)) b (length (a .scratch .now)) 32 (a .input .now) (a .stage-twiddles .now) (a .end-twiddles .now)) (c .before .before .before .before .is-bins .ensures) in
+    let told = c .before .before .before .lent .ensures 32 refl
+    ∙ ap (λ (b : Bool). lentVerdict (a .plan) (a .width) (eqb (length (a .input .now)) (a .plan .n)) b (length (a .scratch .now)) 32 (a .input .now)
+    (a .stage-twiddles .now) (a .end-twiddles .now)) (c .before .before .before .before .is-bins .ensures) in
     settles-refused _ _ _ _ (sym (c .before .why .given .1) ∙ told)
 
-pub forward-spec : {M : Type 1} → statement M
-forward-spec =
-    tie.close
-    (tie.spec (λ c κs. search needs) (λ c κs. search needs) enum-told forward-requires (λ c. search needs) (λ c. search needs)
+pub forward-spec : {M : Type 1} → fn.Statement.statement M
+forward-spec = fn.Tie.close
+    (fn.Tie.spec (λ c κs. search needs) (λ c κs. search needs) (λ c. search needs) forward-requires (λ c. search needs) (λ c. search needs)
     (λ c. search needs) returns returns-2)

@@ -1,19 +1,16 @@
 -- `replay::places::places_differ` meets its contract, and ends: the measure is how many twiddles are left. Assumes nothing.
-use Prim.Native.Nat.{_-_, _≤_}
-use borrow.Author.Needs.{needs}
-use Rattle.replay.proofs.places.places_differ.Statement.{statement}
-use Rattle.replay.proofs.places.places_differ.Tie as tie
+use Rattle.sequences.proofs.Basics.{_-_, _≤_, needs}
+use Rattle.replay.proofs.places.places_differ as fn
 
-abbrev Inv-loop : tie.InvT-loop
+abbrev Inv-loop : fn.Tie.InvT-loop
 Inv-loop fd plan count width t₀ are-same₀ passed₀ t are-same passed = (passed ≤ count) × (count ≤ 20000)
 
-abbrev μ-loop : tie.MeasureT-loop
+abbrev μ-loop : fn.Tie.MeasureT-loop
 μ-loop fd plan count width t₀ are-same₀ passed₀ t are-same passed = count - passed
 
-pub places-differ-spec : {M : Type 1} → statement M
-places-differ-spec =
-    tie.close
-    (tie.spec Inv-loop μ-loop (λ c. search needs) (λ c. search needs) (λ c. search needs) (λ c κs. search needs) (λ c. search needs)
+pub places-differ-spec : {M : Type 1} → fn.Statement.statement M
+places-differ-spec = fn.Tie.close
+    (fn.Tie.spec Inv-loop μ-loop (λ c. search needs) (λ c. search needs) (λ c. search needs) (λ c κs. search needs) (λ c. search needs)
     (λ c. search needs) (λ c. search needs) (λ c κs. search needs) (λ c κs. search needs) (λ c. search needs) (λ c. search needs)
     (λ c. search needs) (λ c κs. search needs) (λ c. search needs) (λ c κs. search needs) (λ c. search needs) (λ c κs. search needs)
     (λ c. search needs) (λ c. search needs) (λ c. search needs) (λ c. search needs))

@@ -1,18 +1,14 @@
 -- `replay::text::number` meets its contract, and ends: the measure is how many characters are left. Assumes nothing.
-use Prim.Native.Nat.{_-_, _≤_}
-use lib.ListN.{length}
-use borrow.Author.Needs.{needs}
-use Rattle.replay.proofs.text.number.Statement.{statement}
-use Rattle.replay.proofs.text.number.Tie as tie
+use Rattle.sequences.proofs.Basics.{_-_, _≤_, length, needs}
+use Rattle.replay.proofs.text.number as fn
 
-abbrev Inv-loop : tie.InvT-loop
+abbrev Inv-loop : fn.Tie.InvT-loop
 Inv-loop text is-hexadecimal read₀ i₀ read i = (i ≤ length text) × (read ≤ 100000000000000)
 
-abbrev μ-loop : tie.MeasureT-loop
+abbrev μ-loop : fn.Tie.MeasureT-loop
 μ-loop text is-hexadecimal read₀ i₀ read i = length text - i
 
-pub number-spec : {M : Type 1} → statement M
-number-spec =
-    tie.close
-    (tie.spec Inv-loop μ-loop (λ c. search needs) (λ c. search needs) (λ c κs. search needs) (λ c. search needs) (λ c κs. search needs)
+pub number-spec : {M : Type 1} → fn.Statement.statement M
+number-spec = fn.Tie.close
+    (fn.Tie.spec Inv-loop μ-loop (λ c. search needs) (λ c. search needs) (λ c κs. search needs) (λ c. search needs) (λ c κs. search needs)
     (λ c. search needs) (λ c. search needs) (λ c. search needs) (λ c. search needs))

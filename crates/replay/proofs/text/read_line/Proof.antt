@@ -1,16 +1,9 @@
 -- `replay::text::read_line` meets its contract. Assumes nothing.
-use mathlib.Core.Path.{sym}
-use lib.Seq.{length-take-le}
-use borrow.Author.Needs.{needs}
-use Rattle.replay.proofs.text.read_line.Statement.{statement}
-use Rattle.replay.proofs.text.read_line.Tie as tie
+use Rattle.sequences.proofs.Basics.{sym, length-take-le, needs}
+use Rattle.replay.proofs.text.read_line as fn
 
-slice-aggregate-read-full : tie.Need-slice-aggregate-read-full
-slice-aggregate-read-full c = sym (length-take-le _ _ (search needs))
-
-pub read-line-spec : {M : Type 1} → statement M
-read-line-spec =
-    tie.close
-    (tie.spec (λ c. search needs) (λ c. search needs) (λ c. search needs) slice-aggregate-read-full (λ c κs. search needs)
+pub read-line-spec : {M : Type 1} → fn.Statement.statement M
+read-line-spec = fn.Tie.close
+    (fn.Tie.spec (λ c. search needs) (λ c. search needs) (λ c. search needs) (λ c. sym (length-take-le _ _ (search needs))) (λ c κs. search needs)
     (λ c. search needs) (λ c. search needs) (λ c. search needs) (λ c. search needs) (λ c. search needs) (λ c. search needs)
     (λ c. search needs) (λ c. search needs) (λ c. search needs))

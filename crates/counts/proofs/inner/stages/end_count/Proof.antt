@@ -1,17 +1,15 @@
 -- `counts::inner::stages::end_count` meets its contract. Assumes nothing.
-use borrow.Author.Tests.{eq-eqb, ne-eqb}
+use Rattle.sequences.proofs.Basics.{eq-eqb, ne-eqb, needs}
 use Rattle.counts.specs.Counts.{endCount}
-use borrow.Author.Needs.{needs}
-use Rattle.counts.proofs.inner.stages.end_count.Statement.{statement}
-use Rattle.counts.proofs.inner.stages.end_count.Tie as tie
+use Rattle.counts.proofs.inner.stages.end_count as fn
 
-returns : tie.Need-returns
+returns : fn.Tie.Need-returns
 unfolding endCount
 returns c = simp (eq-eqb _ _ (c .if1 .taken))
 
-returns-2 : tie.Need-returns-2
+returns-2 : fn.Tie.Need-returns-2
 unfolding endCount
 returns-2 c = simp (ne-eqb _ _ (c .if1 .left))
 
-pub end-count-spec : {M : Type 1} → statement M
-end-count-spec = tie.close (tie.spec (λ c. search needs) returns returns-2)
+pub end-count-spec : {M : Type 1} → fn.Statement.statement M
+end-count-spec = fn.Tie.close (fn.Tie.spec (λ c. search needs) returns returns-2)

@@ -1,30 +1,21 @@
 -- `counts::inner::stages::twiddle_count` meets its contract. Assumes nothing.
 use Rattle.plan.proofs.Bounds.{plan-order, plan-radix-bounds}
 use Rattle.counts.proofs.Counts.{count-later, count-small, count-first}
-use borrow.Author.Needs.{needs}
-use native.Mathlib.Omega.{arith}
-use Rattle.counts.proofs.inner.stages.twiddle_count.Statement.{statement}
-use Rattle.counts.proofs.inner.stages.twiddle_count.Tie as tie
+use Rattle.sequences.proofs.Basics.{arith, needs}
+use Rattle.counts.proofs.inner.stages.twiddle_count as fn
 
-returns : tie.Need-returns
-returns c = count-first (c .before .args .t1 .half) (c .before .args .t1 .radices) (c .before .args .j) (c .if1 .taken)
+mul-result : fn.Tie.Need-mul-result
+mul-result c = let c2 = c .before .before in
+    omega (
+      arith,
+      count-later (c2 .args .t1) (c2 .pre .0) (c2 .args .j) (c .before .if1 .left) (c2 .pre .1),
+      count-small (c2 .args .t1) (c2 .pre .0) (c2 .args .j) (c2 .pre .1),
+    )
 
-element-copy-out-r : tie.Need-element-copy-out-r
-element-copy-out-r c = omega (arith, plan-order (c .before .args .t1) (c .before .pre .0) .few)
-
-div-result : tie.Need-div-result
-div-result c = omega (arith, plan-radix-bounds (c .before .before .args .t1) (c .before .before .pre .0) (c .before .before .args .j) (c .before .before .pre .1))
-
-sub-result : tie.Need-sub-result
-sub-result c = omega (arith, plan-radix-bounds (c .before .before .args .t1) (c .before .before .pre .0) (c .before .before .args .j) (c .before .before .pre .1))
-
-mul-result : tie.Need-mul-result
-mul-result c = omega (arith, count-later (c .before .before .args .t1) (c .before .before .pre .0) (c .before .before .args .j) (c .before .if1 .left) (c .before .before .pre .1), count-small (c .before .before .args .t1) (c .before .before .pre .0) (c .before .before .args .j) (c .before .before .pre .1))
-
-returns-2 : tie.Need-returns-2
-returns-2 c = count-later (c .before .before .args .t1) (c .before .before .pre .0) (c .before .before .args .j) (c .before .if1 .left) (c .before .before .pre .1)
-
-pub twiddle-count-spec : {M : Type 1} → statement M
-twiddle-count-spec =
-    tie.close
-    (tie.spec returns element-copy-out-r (λ c. search needs) div-result sub-result mul-result returns-2)
+pub twiddle-count-spec : {M : Type 1} → fn.Statement.statement M
+twiddle-count-spec = fn.Tie.close
+    (fn.Tie.spec (λ c. count-first (c .before .args .t1 .half) (c .before .args .t1 .radices) (c .before .args .j) (c .if1 .taken))
+    (λ c. omega (arith, plan-order (c .before .args .t1) (c .before .pre .0) .few)) (λ c. search needs) (λ c. let c2 = c .before .before in
+    omega (arith, plan-radix-bounds (c2 .args .t1) (c2 .pre .0) (c2 .args .j) (c2 .pre .1))) (λ c. let c2 = c .before .before in
+    omega (arith, plan-radix-bounds (c2 .args .t1) (c2 .pre .0) (c2 .args .j) (c2 .pre .1))) mul-result (λ c. let c2 = c .before .before in
+    count-later (c2 .args .t1) (c2 .pre .0) (c2 .args .j) (c .before .if1 .left) (c2 .pre .1)))

@@ -1,10 +1,7 @@
 -- `ends::inner::pairs::fft_far` meets its contract. Assumes nothing.
-use borrow.Author.Needs.{needs}
-use Rattle.ends.proofs.inner.pairs.fft_far.Statement.{statement}
-use Rattle.ends.proofs.inner.pairs.fft_far.Tie as tie
+use Rattle.sequences.proofs.Basics.{needs}
+use Rattle.ends.proofs.inner.pairs.fft_far as fn
 
-returns : tie.Need-returns
-returns c = simp (c .before .before .before .before .mix .ensures, c .before .before .before .before .before .sub .ensures, c .before .before .before .before .before .before .add .ensures)
-
-pub fft-far-spec : {M : Type 1} → statement M
-fft-far-spec = tie.close (tie.spec (λ c κs. search needs) (λ c κs. search needs) (λ c κs. search needs) returns)
+pub fft-far-spec : {M : Type 1} → fn.Statement.statement M
+fft-far-spec = fn.Tie.close (fn.Tie.spec (λ c κs. search needs) (λ c κs. search needs) (λ c κs. search needs)
+    (λ c. let c4 = c .before .before .before .before in simp (c4 .mix .ensures, c4 .before .sub .ensures, c4 .before .before .add .ensures)))

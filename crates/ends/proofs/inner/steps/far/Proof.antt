@@ -1,13 +1,7 @@
 -- `ends::inner::steps::far` meets its contract. Assumes nothing.
-use borrow.Author.Needs.{needs}
-use Rattle.ends.proofs.inner.steps.far.Statement.{statement}
-use Rattle.ends.proofs.inner.steps.far.Tie as tie
+use Rattle.sequences.proofs.Basics.{needs}
+use Rattle.ends.proofs.inner.steps.far as fn
 
-returns : tie.Need-returns
-returns c = rw (c .before .if1 .taken) (c .fft-far .ensures)
-
-returns-2 : tie.Need-returns-2
-returns-2 c = rw (c .before .if1 .left) (c .ifft-far .ensures)
-
-pub far-spec : {M : Type 1} → statement M
-far-spec = tie.close (tie.spec (λ c κs. search needs) (λ c κs. search needs) returns returns-2)
+pub far-spec : {M : Type 1} → fn.Statement.statement M
+far-spec = fn.Tie.close (fn.Tie.spec (λ c κs. search needs) (λ c κs. search needs) (λ c. rw (c .before .if1 .taken) (c .fft-far .ensures))
+    (λ c. rw (c .before .if1 .left) (c .ifft-far .ensures)))

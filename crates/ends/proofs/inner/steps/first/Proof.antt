@@ -1,13 +1,7 @@
 -- `ends::inner::steps::first` meets its contract. Assumes nothing.
-use borrow.Author.Needs.{needs}
-use Rattle.ends.proofs.inner.steps.first.Statement.{statement}
-use Rattle.ends.proofs.inner.steps.first.Tie as tie
+use Rattle.sequences.proofs.Basics.{needs}
+use Rattle.ends.proofs.inner.steps.first as fn
 
-returns : tie.Need-returns
-returns c = rw (c .before .if1 .taken)
-
-returns-2 : tie.Need-returns-2
-returns-2 c = rw (c .before .before .before .before .if1 .left) (simp (c .before .before .before .add .ensures, c .before .before .sub .ensures))
-
-pub first-spec : {M : Type 1} → statement M
-first-spec = tie.close (tie.spec returns (λ c κs. search needs) (λ c κs. search needs) returns-2)
+pub first-spec : {M : Type 1} → fn.Statement.statement M
+first-spec = fn.Tie.close (fn.Tie.spec (λ c. rw (c .before .if1 .taken)) (λ c κs. search needs) (λ c κs. search needs) (λ c. let c2 = c .before .before in
+    rw (c2 .before .before .if1 .left) (simp (c2 .before .add .ensures, c2 .sub .ensures))))

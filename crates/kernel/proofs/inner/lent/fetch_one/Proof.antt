@@ -1,28 +1,23 @@
 -- `kernel::inner::lent::fetch_one` meets its contract. Assumes nothing.
-use mathlib.Core.Path.{sym, ap}
-use Prim.Native.Nat.{_+_, _-_, _*_, _%_, _≤_}
-use native.Mathlib.Nat.{mul-le-mul-right}
-use native.Mathlib.Omega.{arith}
-use borrow.Author.Needs.{needs}
+use Rattle.sequences.proofs.Basics.{sym, ap, _+_, _-_, _*_, _%_, _≤_, mul-le-mul-right, arith, needs}
 use Rattle.floats.specs.Complexes.{cell}
 use Rattle.kernel.proofs.Writes.{wrote-as}
 use Rattle.kernel.proofs.Widths.{place-lt, place-in, place-past, small-past, small-lane}
-use Rattle.kernel.proofs.inner.lent.fetch_one.Statement.{statement}
-use Rattle.kernel.proofs.inner.lent.fetch_one.Tie as tie
+use Rattle.kernel.proofs.inner.lent.fetch_one as fn
 
 -- the twiddles of iteration j have room in t, and those of iteration i stand at a small number
-to : (s : tie.Start) → s .args .j * (s .args .r - 1) ≤ 15 * 7
+to : (s : fn.Tie.Start) → s .args .j * (s .args .r - 1) ≤ 15 * 7
 to s = small-lane (s .args .j) (s .args .r) (s .pre .3) (s .pre .0 .few)
 
-from : (s : tie.Start) → s .args .i * (s .args .r - 1) ≤ 4096 * 7
+from : (s : fn.Tie.Start) → s .args .i * (s .args .r - 1) ≤ 4096 * 7
 from s = small-past (s .args .m) (s .args .r) (s .args .i) (s .pre .0 .small) (s .pre .0 .few) (s .pre .2)
 
-start : (s : tie.Start) → (s .args .i - s .args .i % 2) * (s .args .r - 1) ≤ 4096 * 7
+start : (s : fn.Tie.Start) → (s .args .i - s .args .i % 2) * (s .args .r - 1) ≤ 4096 * 7
 start s =
     let a : s .args .i - s .args .i % 2 ≤ s .args .i = omega arith in
     omega (arith, from s, mul-le-mul-right (s .args .r - 1) a)
 
-gather-requires : tie.Need-gather-requires
+gather-requires : fn.Tie.Need-gather-requires
 gather-requires c κs =
     let s = c .before .before .before .before in
     let a = s .args in (
@@ -32,7 +27,7 @@ gather-requires c κs =
           omega (arith, below, place-in (a .m) (a .r) (a .w) (a .i) u (s .pre .1) (c .before .if1 .taken), s .pre .0 .lent),
     )
 
-gather-requires-2 : tie.Need-gather-requires-2
+gather-requires-2 : fn.Tie.Need-gather-requires-2
 gather-requires-2 c κs =
     let s = c .before .before .before .before in
     let a = s .args in (
@@ -42,29 +37,21 @@ gather-requires-2 c κs =
           omega (arith, below, place-past (a .m) (a .r) (a .w) (a .i) u (s .pre .1) (c .before .if1 .left), s .pre .0 .lent),
     )
 
-returns : tie.Need-returns
+returns : fn.Tie.Need-returns
 returns c =
-    let s = c .before .before .before .before .before .before .before in
-    let a = s .args in
+    let s = c .before .before .before .before .before .before .before in let a = s .args in
     wrote-as _ _ _ _ (λ u l. ap (cell (a .tw .now)) (sym (place-in (a .m) (a .r) (a .w) (a .i) u (s .pre .1) (c .before .before .before .before .if1 .taken))))
     (c .before .before .gather .ensures)
 
-returns-2 : tie.Need-returns-2
+returns-2 : fn.Tie.Need-returns-2
 returns-2 c =
-    let s = c .before .before .before .before .before .before .before in
-    let a = s .args in
+    let s = c .before .before .before .before .before .before .before in let a = s .args in
     wrote-as _ _ _ _ (λ u l. ap (cell (a .tw .now)) (sym (place-past (a .m) (a .r) (a .w) (a .i) u (s .pre .1) (c .before .before .before .before .if1 .left))))
     (c .before .before .gather2 .ensures)
 
-pub fetch-one-spec : {M : Type 1} → statement M
-fetch-one-spec =
-    tie.close
-    (tie.spec (λ c. search needs) (λ c. search needs) (λ c. search needs)
-    (λ c. omega (arith, to (c .before .before .before .before)))
-    (λ c. search needs)
+pub fetch-one-spec : {M : Type 1} → fn.Statement.statement M
+fetch-one-spec = fn.Tie.close (fn.Tie.spec (λ c. search needs) (λ c. search needs) (λ c. search needs)
+    (λ c. omega (arith, to (c .before .before .before .before))) (λ c. search needs) (λ c. omega (arith, start (c .before .before .before .before)))
     (λ c. omega (arith, start (c .before .before .before .before)))
-    (λ c. omega (arith, start (c .before .before .before .before)))
-    gather-requires
-    (λ c. omega (arith, to (c .before .before .before .before)))
-    (λ c. omega (arith, from (c .before .before .before .before)))
+    gather-requires (λ c. omega (arith, to (c .before .before .before .before))) (λ c. omega (arith, from (c .before .before .before .before)))
     gather-requires-2 (λ c. search needs) returns (λ c. search needs) returns-2)

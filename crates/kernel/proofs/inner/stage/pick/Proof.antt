@@ -1,11 +1,7 @@
 -- `kernel::inner::stage::pick` meets its contract. Assumes nothing.
-use mathlib.Core.Path.{refl}
-use native.Mathlib.Omega.{arith}
-use Rattle.kernel.proofs.inner.stage.pick.Statement.{statement}
-use Rattle.kernel.proofs.inner.stage.pick.Tie as tie
+use Rattle.sequences.proofs.Basics.{refl, arith}
+use Rattle.kernel.proofs.inner.stage.pick as fn
 
-pub pick-spec : {M : Type 1} → statement M
-pick-spec = tie.close
-    (tie.spec
-    (λ c. (λ l. refl, λ l. absurd (omega (arith, c .if1 .taken))))
+pub pick-spec : {M : Type 1} → fn.Statement.statement M
+pick-spec = fn.Tie.close (fn.Tie.spec (λ c. (λ l. refl, λ l. absurd (omega (arith, c .if1 .taken))))
     (λ c. (λ l. absurd (omega (arith, c .if1 .left)), λ l. refl)))

@@ -1,21 +1,17 @@
 -- `merging::inner::halving::changed` meets its contract. Assumes nothing.
-use Prim.Native.Nat.{ℕ}
-use mathlib.Core.Path.{sym, ap, _∙_}
-use mathlib.Core.List.{List}
-use lib.ListN.{set, length-set}
+use Rattle.sequences.proofs.Basics.{sym, ap, _∙_, ℕ, List, set, length-set, needs}
 use Rattle.radices.specs.Lists.{listed}
 use Rattle.merging.proofs.Half.{halved-becomes}
 use Rattle.radices.proofs.Lists.{listed-is, paste-empty, set-padded}
-use borrow.Author.Needs.{needs}
-use Rattle.merging.proofs.inner.halving.changed.Statement.{statement}
-use Rattle.merging.proofs.inner.halving.changed.Tie as tie
+use Rattle.merging.proofs.inner.halving.changed as fn
 
-returns : tie.Need-returns
+returns : fn.Tie.Need-returns
 returns c =
     let a = c .before .before .args in
     listed-is (set (a .list .now) (a .at) (a .to)) _ _ (sym (length-set (a .list .now) (a .at) (a .to)))
-    (ap (λ (l : List ℕ). set l (a .at) (a .to)) (c .copied .ensures ∙ paste-empty (a .list .now) (search needs)) ∙ set-padded (a .list .now) (a .at) (a .to) (search needs))
+    (ap (λ (l : List ℕ). set l (a .at) (a .to)) (c .copied .ensures ∙ paste-empty (a .list .now) (search needs))
+    ∙ set-padded (a .list .now) (a .at) (a .to) (search needs))
     ∙ ap listed (sym (halved-becomes (a .at) (a .to) (a .list .now)))
 
-pub changed-spec : {M : Type 1} → statement M
-changed-spec = tie.close (tie.spec (λ c κs. search needs) (λ c. search needs) returns)
+pub changed-spec : {M : Type 1} → fn.Statement.statement M
+changed-spec = fn.Tie.close (fn.Tie.spec (λ c κs. search needs) (λ c. search needs) returns)

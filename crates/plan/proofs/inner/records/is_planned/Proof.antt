@@ -1,39 +1,32 @@
 -- `plan::inner::records::is_planned` meets its contract. Assumes nothing.
-use lib.Seq.{length-take-le}
+use Rattle.sequences.proofs.Basics.{sym, _∙_, arith, length-take-le, not-true, not-false, needs}
 use Rattle.plan.proofs.Records.{order-fits, planned-disordered, planned-large, planned-not-twice, planned-made, order-radical, in-order}
-use borrow.Author.Needs.{needs}
-use native.Mathlib.Omega.{arith}
-use mathlib.Core.Path.{sym, _∙_}
-use borrow.Author.Tests.{not-true, not-false}
-use Rattle.plan.proofs.inner.records.is_planned.Statement.{statement}
-use Rattle.plan.proofs.inner.records.is_planned.Tie as tie
+use Rattle.plan.proofs.inner.records.is_planned as fn
 
-returns : tie.Need-returns
-returns c = planned-disordered (c .before .before .before .args .plan) (sym (c .before .in-order .ensures) ∙ not-true _ (c .if1 .taken))
+array-share-prefix-radices : fn.Tie.Need-array-share-prefix-radices
+array-share-prefix-radices c = let c7 = c .before .before .before .before .before .before .before in let c10 = c7 .before .before .before in
+    order-fits (c10 .args .plan .count) (c10 .args .plan .radices) (sym (c7 .before .in-order .ensures) ∙ not-false _ (c7 .if1 .left))
 
-returns-2 : tie.Need-returns-2
-returns-2 c = planned-large (c .before .before .before .before .before .args .plan) (c .if2 .taken)
+slice-aggregate-makes : fn.Tie.Need-slice-aggregate-makes
+slice-aggregate-makes c = let c8 = c .before .before .before .before .before .before .before .before in let c11 = c8 .before .before .before in
+    sym (length-take-le _ _ (order-fits (c11 .args .plan .count) (c11 .args .plan .radices)
+    (sym (c8 .before .in-order .ensures) ∙ not-false _ (c8 .if1 .left))))
 
-returns-3 : tie.Need-returns-3
-returns-3 c = planned-not-twice (c .before .before .before .before .before .before .before .args .plan) (c .before .before .if2 .left) (λ e. omega (arith, e, c .if3 .taken, c .before .before .if2 .left))
+makes-requires : fn.Tie.Need-makes-requires
+makes-requires c κs = let c4 = c .before .before .before .before in let c8 = c4 .before .before .before .before in let c11 = c8 .before .before .before in
+    (order-radical (c11 .args .plan .count) (c11 .args .plan .radices) (sym (c8 .before .in-order .ensures) ∙ not-false _ (c8 .if1 .left)), c4 .if3 .left)
 
-returns-4 : tie.Need-returns-4
-returns-4 c = planned-not-twice (c .before .before .before .before .before .before .before .before .before .before .args .plan) (c .before .before .before .before .before .if2 .left) (c .if4 .taken)
+returns-5 : fn.Tie.Need-returns-5
+returns-5 c = let c7 = c .before .before .before .before .before .before .before in let c9 = c7 .before .before in
+    c .makes .ensures ∙ planned-made (c9 .before .before .before .args .plan) (sym (c9 .before .in-order .ensures) ∙ not-false _ (c9 .if1 .left))
+    (c7 .if2 .left) (c .before .before .if4 .left)
 
-array-share-prefix-radices : tie.Need-array-share-prefix-radices
-array-share-prefix-radices c = order-fits (c .before .before .before .before .before .before .before .before .before .before .args .plan .count) (c .before .before .before .before .before .before .before .before .before .before .args .plan .radices) (sym (c .before .before .before .before .before .before .before .before .in-order .ensures) ∙ not-false _ (c .before .before .before .before .before .before .before .if1 .left))
-
-slice-aggregate-makes : tie.Need-slice-aggregate-makes
-slice-aggregate-makes c = sym (length-take-le _ _ (order-fits (c .before .before .before .before .before .before .before .before .before .before .before .args .plan .count) (c .before .before .before .before .before .before .before .before .before .before .before .args .plan .radices) (sym (c .before .before .before .before .before .before .before .before .before .in-order .ensures) ∙ not-false _ (c .before .before .before .before .before .before .before .before .if1 .left))))
-
-makes-requires : tie.Need-makes-requires
-makes-requires c κs = (order-radical (c .before .before .before .before .before .before .before .before .before .before .before .args .plan .count) (c .before .before .before .before .before .before .before .before .before .before .before .args .plan .radices) (sym (c .before .before .before .before .before .before .before .before .before .in-order .ensures) ∙ not-false _ (c .before .before .before .before .before .before .before .before .if1 .left)), c .before .before .before .before .if3 .left)
-
-returns-5 : tie.Need-returns-5
-returns-5 c = c .makes .ensures ∙ planned-made (c .before .before .before .before .before .before .before .before .before .before .before .before .args .plan) (sym (c .before .before .before .before .before .before .before .before .before .before .in-order .ensures) ∙ not-false _ (c .before .before .before .before .before .before .before .before .before .if1 .left)) (c .before .before .before .before .before .before .before .if2 .left) (c .before .before .if4 .left)
-
-pub is-planned-spec : {M : Type 1} → statement M
-is-planned-spec =
-    tie.close
-    (tie.spec (λ c κs. search needs) returns returns-2 returns-3 (λ c. search needs) returns-4 array-share-prefix-radices
+pub is-planned-spec : {M : Type 1} → fn.Statement.statement M
+is-planned-spec = fn.Tie.close
+    (fn.Tie.spec (λ c κs. search needs) (λ c. planned-disordered (c .before .before .before .args .plan)
+    (sym (c .before .in-order .ensures) ∙ not-true _ (c .if1 .taken)))
+    (λ c. planned-large (c .before .before .before .before .before .args .plan) (c .if2 .taken)) (λ c. let c2 = c .before .before in
+    planned-not-twice (c2 .before .before .before .before .before .args .plan) (c2 .if2 .left) (λ e. omega (arith, e, c .if3 .taken, c2 .if2 .left)))
+    (λ c. search needs) (λ c. let c5 = c .before .before .before .before .before in
+    planned-not-twice (c5 .before .before .before .before .before .args .plan) (c5 .if2 .left) (c .if4 .taken)) array-share-prefix-radices
     slice-aggregate-makes makes-requires returns-5)

@@ -1,48 +1,25 @@
 -- `plan_lines` adds the seven lines in turn; they fit. Assumes nothing.
-use borrow.Author.Needs.{needs}
-use Prim.Native.Nat.{ℕ}
-use native.Mathlib.Omega.{arith}
-use mathlib.Core.Path.{ap, _∙_}
-use mathlib.Core.List.{List, [], _∷_, _++_}
-use lib.Dec.{lit≤}
-use lib.ListN.{take}
+use Rattle.sequences.proofs.Basics.{ap, _∙_, ℕ, arith, List, [], _∷_, _++_, lit≤, take, needs}
 use Rattle.counts.specs.Counts.{twiddleStart, endCount, resultIn}
 use Rattle.counts.specs.declared.Buffer.{Buffer}
 use Rattle.plan_text.specs.Lines.{decimal, line}
 use Rattle.plan_text.specs.Report.{factorWords, bufferName, planLines}
 use Rattle.plan_text.proofs.Growing.{then, said, holds}
 use Rattle.plan_text.proofs.Plans.{planned-count, count-of, buffer-of}
-use Rattle.plan_text.proofs.inner.lines.plan_lines.Statement.{statement}
-use Rattle.plan_text.proofs.inner.lines.plan_lines.Tie as tie
+use Rattle.plan_text.proofs.inner.lines.plan_lines as fn
 
-factors-line-requires : tie.Need-factors-line-requires
-factors-line-requires c κs = (
-  planned-count (c .before .before .before .before .before .before .args .plan) (c .before .before .before .before .before .before .pre),
-  omega arith,
-)
+factors-line-requires : fn.Tie.Need-factors-line-requires
+factors-line-requires c κs = let c6 = c .before .before .before .before .before .before in (planned-count (c6 .args .plan) (c6 .pre), omega arith)
 
-number-line-requires-5 : tie.Need-number-line-requires-5
-number-line-requires-5 c κs = omega (arith, c .before .before .before .before .before .before .before .before .before)
-
-result-line-requires : tie.Need-result-line-requires
-result-line-requires c κs = omega (arith, c .before .before .before .before .before .before .before .before .before)
-
-returns : tie.Need-returns
+returns : fn.Tie.Need-returns
 unfolding planLines
 returns c =
-    let end = c .before .before in
-    let stage = end .before .before .before in
-    let merges = stage .before .before .before in
-    let factors = merges .before .before in
-    let half = factors .before .before in
-    let n = half .before .before in
-    let start = n .before .before .before in
-    let p = start .args .plan in
-    let m = start .args .merges in
-    let stages = twiddleStart (p .half) (p .radices) (p .count) in
-    let ends = endCount (p .n) in
-    let staged = stage .before .stage-twiddles in
-    let ended = end .before .end-twiddles in
+    let end = c .before .before in let stage = end .before .before .before in
+    let merges = stage .before .before .before in let factors = merges .before .before in
+    let half = factors .before .before in let n = half .before .before in let start = n .before .before .before in
+    let p = start .args .plan in let m = start .args .merges in
+    let stages = twiddleStart (p .half) (p .radices) (p .count) in let ends = endCount (p .n) in
+    let staged = stage .before .stage-twiddles in let ended = end .before .end-twiddles in
     let located = c .before .result in
     let lines : ℕ → ℕ → Buffer → List ℕ = λ s e b.
     line "n" (decimal (p .n) ∷ [])
@@ -53,17 +30,14 @@ returns c =
     ++ (line "end" (decimal e ∷ [])
     ++ line "result" (bufferName b ∷ [])))))) in
     holds {k = 207} (n .before .before .empty .ensures) (lit≤ tt)
-    (said
-    (ap (λ (s : ℕ). lines s (ended .result .count) (located .result .buffer)) (count-of p (staged .result) stages (start .pre) (staged .ensures .answer))
+    (said (ap (λ (s : ℕ). lines s (ended .result .count) (located .result .buffer)) (count-of p (staged .result) stages (start .pre) (staged .ensures .answer))
     ∙ ap (λ (e : ℕ). lines stages e (located .result .buffer)) (count-of p (ended .result) ends (start .pre) (ended .ensures .answer))
-    ∙ ap (λ (b : Buffer). lines stages ends b) (buffer-of p (located .result) (resultIn (p .count)) (start .pre) (located .ensures .answer)))
-    (lit≤ tt)
+    ∙ ap (λ (b : Buffer). lines stages ends b) (buffer-of p (located .result) (resultIn (p .count)) (start .pre) (located .ensures .answer))) (lit≤ tt)
     (then (n .number-line .ensures) (then (half .number-line2 .ensures) (then (factors .factors-line .ensures) (then (merges .number-line3 .ensures)
     (then (stage .number-line4 .ensures) (then (end .number-line5 .ensures) (c .result-line .ensures))))))))
 
-pub plan-lines-spec : {M : Type 1} → statement M
-plan-lines-spec =
-    tie.close
-    (tie.spec (λ c κs. search needs) (λ c. search needs) (λ c κs. omega arith) (λ c. search needs) (λ c κs. omega arith)
+pub plan-lines-spec : {M : Type 1} → fn.Statement.statement M
+plan-lines-spec = fn.Tie.close (fn.Tie.spec (λ c κs. search needs) (λ c. search needs) (λ c κs. omega arith) (λ c. search needs) (λ c κs. omega arith)
     factors-line-requires (λ c. search needs) (λ c κs. omega arith) (λ c. search needs) (λ c κs. search needs) (λ c κs. omega arith)
-    (λ c. search needs) (λ c κs. search needs) number-line-requires-5 (λ c κs. search needs) result-line-requires returns)
+    (λ c. search needs) (λ c κs. search needs) (λ c κs. omega (arith, c .before .before .before .before .before .before .before .before .before))
+    (λ c κs. search needs) (λ c κs. omega (arith, c .before .before .before .before .before .before .before .before .before)) returns)

@@ -1,8 +1,5 @@
 -- `with_digits` adds the digits of a number, the last one after those of its tenth. The measure is the number. Assumes nothing.
-use Prim.Native.Nat.{ℕ, _<_}
-use native.Mathlib.Omega.{arith}
-use mathlib.Core.Path.{sym, ap}
-use lib.ListN.{length}
+use Rattle.sequences.proofs.Basics.{sym, ap, ℕ, _<_, arith, length}
 use Rattle.plan_text.proofs.Decimal.{decimal-small, decimal-more, decimal-longer}
 use Rattle.plan_text.proofs.Growing.{then, said}
 use borrow.Fn.Kinds.{In}
@@ -18,12 +15,10 @@ abbrev μ-with-digits : Measures 0 with-digits-kinds.ps ℕ
 μ-with-digits κs a = a .1 .0
 
 abbrev with-digits-at : ℕ → In 0 with-digits-kinds.ps
-with-digits-at t =
-    and 0 with-digits-kinds.ps (is 0 with-digits-kinds.ps μ-with-digits t) with-digits.Pre
+with-digits-at t = and 0 with-digits-kinds.ps (is 0 with-digits-kinds.ps μ-with-digits t) with-digits.Pre
 
 abbrev with-digits-below : ℕ → In 0 with-digits-kinds.ps
-with-digits-below t =
-    and 0 with-digits-kinds.ps (falls 0 with-digits-kinds.ps _<_ μ-with-digits t) with-digits.Pre
+with-digits-below t = and 0 with-digits-kinds.ps (falls 0 with-digits-kinds.ps _<_ μ-with-digits t) with-digits.Pre
 
 with-digits-cast-with-byte : (t : ℕ) → with-digits-lts.Need-cast-with-byte (
   with-byte-reads.Asked,
@@ -65,8 +60,7 @@ with-digits-with-digits-requires : (t : ℕ) → with-digits-lts.Need-with-digit
   with-digits-below t,
   with-digits.Post,
 ) (with-digits-at t) with-digits.Post
-with-digits-with-digits-requires t c κs =
-    (omega arith, omega (arith, c .before .pre, decimal-longer (c .before .args .n) (c .if1 .left)))
+with-digits-with-digits-requires t c κs = (omega arith, omega (arith, c .before .pre, decimal-longer (c .before .args .n) (c .if1 .left)))
 
 with-digits-cast-with-byte-2 : (t : ℕ) → with-digits-lts.Need-cast-with-byte-2 (
   with-byte-reads.Asked,
@@ -100,25 +94,12 @@ with-digits-returns-2 : (t : ℕ) → with-digits-lts.Need-returns-2 (
   with-digits.Post,
 ) (with-digits-at t) with-digits.Post
 with-digits-returns-2 t c =
-    let n = c .before .before .before .args .n in
-    let h = c .before .before .if1 .left in
+    let n = c .before .before .before .args .n in let h = c .before .before .if1 .left in
     said (sym (decimal-more n h)) (omega (arith, decimal-longer n h)) (then (c .before .with-digits .ensures) (c .with-byte2 .ensures))
 
 pub +with-digits-spec : {M : Type 1} → statement M
-+with-digits-spec = close μ-with-digits λ t. with-digits-lts.spec (
-  with-byte-reads.Asked,
-  with-byte-reads.Learnt,
-  with-digits-below t,
-  with-digits.Post,
-)
++with-digits-spec = close μ-with-digits λ t. with-digits-lts.spec (with-byte-reads.Asked, with-byte-reads.Learnt, with-digits-below t, with-digits.Post)
     (with-digits-at t)
-    with-digits.Post
-    (with-digits-cast-with-byte t)
-    (with-digits-add-with-byte t)
-    (with-digits-with-byte-requires t)
-    (with-digits-returns t)
-    (with-digits-with-digits-requires t)
-    (with-digits-cast-with-byte-2 t)
-    (with-digits-add-with-byte-2 t)
-    (with-digits-with-byte-requires-2 t)
+    with-digits.Post (with-digits-cast-with-byte t) (with-digits-add-with-byte t) (with-digits-with-byte-requires t) (with-digits-returns t)
+    (with-digits-with-digits-requires t) (with-digits-cast-with-byte-2 t) (with-digits-add-with-byte-2 t) (with-digits-with-byte-requires-2 t)
     (with-digits-returns-2 t)

@@ -1,16 +1,11 @@
 -- `power::inner::check::lent_bins` meets its contract. Assumes nothing.
-use mathlib.Core.Path.{refl}
+use Rattle.sequences.proofs.Basics.{refl, needs}
 use lib.Ieee.{ofBits}
-use borrow.Author.Needs.{needs}
 use Rattle.refusal.proofs.Rows.{deciding}
 use Rattle.power.specs.Power.{powerVerdict}
-use Rattle.power.proofs.inner.check.lent_bins.Statement.{statement}
-use Rattle.power.proofs.inner.check.lent_bins.Tie as tie
+use Rattle.power.proofs.inner.check.lent_bins as fn
 
-pub lent-bins-spec : {M : Type 1} → statement M
+pub lent-bins-spec : {M : Type 1} → fn.Statement.statement M
 unfolding powerVerdict ofBits
-lent-bins-spec =
-    tie.close
-    (tie.spec (λ c. search deciding) (λ c. search deciding) (λ c. search deciding) (λ c. search deciding) (λ c. search deciding)
-    (λ c κs. search needs) (λ c. search (deciding, c .before .first-unfit .ensures 48 refl))
-    (λ c. search (deciding, c .before .first-unfit .ensures 48 refl)))
+lent-bins-spec = fn.Tie.close (fn.Tie.spec (λ c. search deciding) (λ c. search deciding) (λ c. search deciding) (λ c. search deciding) (λ c. search deciding)
+    (λ c κs. search needs) (λ c. search (deciding, c .before .first-unfit .ensures 48 refl)) (λ c. search (deciding, c .before .first-unfit .ensures 48 refl)))

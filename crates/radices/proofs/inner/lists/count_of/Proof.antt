@@ -1,34 +1,22 @@
 -- `radices::inner::lists::count_of` meets its contract. Assumes nothing.
-use Prim.Native.Nat.{_+_, _-_, _≤_}
-use mathlib.Core.Path.{_≡_}
-use mathlib.Core.Logic.{⊎-elim}
-use lib.ListN.{length, drop}
+use Rattle.sequences.proofs.Basics.{_≡_, _+_, _-_, _≤_, ⊎-elim, length, drop, needs}
 use Rattle.radices.specs.Lists.{countOf}
 use Rattle.radices.proofs.Lists.{count-hit, count-miss, count-end}
-use borrow.Author.Needs.{needs}
-use Rattle.radices.proofs.inner.lists.count_of.Statement.{statement}
-use Rattle.radices.proofs.inner.lists.count_of.Tie as tie
+use Rattle.radices.proofs.inner.lists.count_of as fn
 
-abbrev Inv-loop : tie.InvT-loop
+abbrev Inv-loop : fn.Tie.InvT-loop
 Inv-loop list v n₀ i₀ n i = (i ≤ length list) × ((n ≤ i) × (n + countOf v (drop i list) ≡ countOf v list))
 
-abbrev μ-loop : tie.MeasureT-loop
+abbrev μ-loop : fn.Tie.MeasureT-loop
 μ-loop list v n₀ i₀ n i = length list - i
 
-loop-again : tie.Need-loop-again Inv-loop μ-loop
+loop-again : fn.Tie.Need-loop-again Inv-loop μ-loop
 loop-again c =
-    let l = c .before .before .before .loop in
-    let a = c .before .before .before .before .args in
-    ⊎-elim
-    (λ w. (search needs, (search needs, rw (w .1) (count-hit (a .v) (a .list .now) (l .n) (l .i) (search needs) (w .0 .taken) (l .inv .1 .1)))))
-    (λ w. (search needs, (search needs, rw (w .1) (count-miss (a .v) (a .list .now) (l .n) (l .i) (search needs) (w .0 .left) (l .inv .1 .1)))))
-    (c .if1 .came)
+    let l = c .before .before .before .loop in let a = c .before .before .before .before .args in
+    ⊎-elim (λ w. (search needs, (search needs, rw (w .1) (count-hit (a .v) (a .list .now) (l .n) (l .i) (search needs) (w .0 .taken) (l .inv .1 .1)))))
+    (λ w. (search needs, (search needs, rw (w .1) (count-miss (a .v) (a .list .now) (l .n) (l .i) (search needs) (w .0 .left) (l .inv .1 .1))))) (c .if1 .came)
 
-returns : tie.Need-returns Inv-loop μ-loop
-returns c = count-end (c .before .before .args .v) (c .before .before .args .list .now) (c .before .loop .n) (c .before .loop .i) (search needs) (c .before .loop .inv .1 .1)
-
-pub count-of-spec : {M : Type 1} → statement M
-count-of-spec =
-    tie.close
-    (tie.spec Inv-loop μ-loop (λ c. search needs) (λ c. search needs) (λ c. search needs) (λ c. search needs) (λ c. search needs) loop-again
-    returns)
+pub count-of-spec : {M : Type 1} → fn.Statement.statement M
+count-of-spec = fn.Tie.close
+    (fn.Tie.spec Inv-loop μ-loop (λ c. search needs) (λ c. search needs) (λ c. search needs) (λ c. search needs) (λ c. search needs) loop-again
+    (λ c. let c1 = c .before in count-end (c1 .before .args .v) (c1 .before .args .list .now) (c1 .loop .n) (c1 .loop .i) (search needs) (c1 .loop .inv .1 .1)))

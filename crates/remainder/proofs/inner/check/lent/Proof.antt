@@ -1,34 +1,30 @@
 -- `remainder::inner::check::lent` meets its contract. Assumes nothing.
-use mathlib.Core.Path.{sym, _∙_}
-use borrow.Author.Needs.{needs}
+use Rattle.sequences.proofs.Basics.{sym, _∙_, needs}
 use Rattle.refusal.proofs.Rows.{deciding}
 use Rattle.remainder.specs.Calls.{lentVerdict}
-use Rattle.remainder.proofs.inner.check.lent.Statement.{statement}
-use Rattle.remainder.proofs.inner.check.lent.Tie as tie
+use Rattle.remainder.proofs.inner.check.lent as fn
 
-returns-3 : tie.Need-returns-3
+returns-3 : fn.Tie.Need-returns-3
 unfolding lentVerdict
 returns-3 c = let apart = rw (c .before .power .ensures) at (c .if3 .taken) in search (deciding, apart) depth 8
 
-returns-4 : tie.Need-returns-4
+returns-4 : fn.Tie.Need-returns-4
 unfolding lentVerdict
 returns-4 c = let one = sym (c .before .before .power .ensures) ∙ c .before .if3 .left in search (deciding, one) depth 8
 
-returns-5 : tie.Need-returns-5
+returns-5 : fn.Tie.Need-returns-5
 unfolding lentVerdict
 returns-5 c = let one = sym (c .before .before .before .power .ensures) ∙ c .before .before .if3 .left in search (deciding, one) depth 8
 
-returns-6 : tie.Need-returns-6
+returns-6 : fn.Tie.Need-returns-6
 unfolding lentVerdict
-returns-6 c = let one = sym (c .before .before .before .before .before .power .ensures) ∙ c .before .before .before .before .if3 .left in search (deciding, one) depth 10
+returns-6 c = let c4 = c .before .before .before .before in let one = sym (c4 .before .power .ensures) ∙ c4 .if3 .left in search (deciding, one) depth 10
 
-returns-7 : tie.Need-returns-7
+returns-7 : fn.Tie.Need-returns-7
 unfolding lentVerdict
-returns-7 c = let one = sym (c .before .before .before .before .before .power .ensures) ∙ c .before .before .before .before .if3 .left in search (deciding, one) depth 10
+returns-7 c = let c4 = c .before .before .before .before in let one = sym (c4 .before .power .ensures) ∙ c4 .if3 .left in search (deciding, one) depth 10
 
-pub lent-spec : {M : Type 1} → statement M
+pub lent-spec : {M : Type 1} → fn.Statement.statement M
 unfolding lentVerdict
-lent-spec =
-    tie.close
-    (tie.spec (λ c. search deciding) (λ c. search deciding) (λ c κs. search needs) returns-3 returns-4 returns-5 (λ c κs. search needs)
+lent-spec = fn.Tie.close (fn.Tie.spec (λ c. search deciding) (λ c. search deciding) (λ c κs. search needs) returns-3 returns-4 returns-5 (λ c κs. search needs)
     returns-6 returns-7)

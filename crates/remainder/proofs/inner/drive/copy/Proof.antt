@@ -1,36 +1,28 @@
 -- `remainder::inner::drive::copy` meets its contract. Assumes nothing.
-use borrow.Author.Needs.{needs}
-use native.Mathlib.Omega.{arith}
-use Prim.Native.Nat.{_-_, _≤_}
-use mathlib.Core.Path.{_≡_, sym, _∙_}
-use lib.ListN.{length, length-set, getD}
+use Rattle.sequences.proofs.Basics.{_≡_, sym, _∙_, _-_, _≤_, arith, length, length-set, getD, needs}
 use Rattle.schedule.proofs.Buffers.{Copied, copied-next, copied-all}
-use Rattle.remainder.proofs.inner.drive.copy.Statement.{statement}
-use Rattle.remainder.proofs.inner.drive.copy.Tie as tie
+use Rattle.remainder.proofs.inner.drive.copy as fn
 
-abbrev Inv-loop : tie.InvT-loop
+abbrev Inv-loop : fn.Tie.InvT-loop
 Inv-loop src dst₀ i₀ dst i = (length dst ≡ length src) × ((i ≤ length src) × Copied 0 src dst i)
 
-abbrev μ-loop : tie.MeasureT-loop
+abbrev μ-loop : fn.Tie.MeasureT-loop
 μ-loop src dst₀ i₀ dst i = length src - i
 
-loop-again : tie.Need-loop-again Inv-loop μ-loop
+loop-again : fn.Tie.Need-loop-again Inv-loop μ-loop
 loop-again c =
-    let a = c .before .before .before .args in
-    let l = c .before .before .loop in
-    (length-set (l .dst) (l .i) (getD (a .src .now) (l .i) 0) ∙ l .inv .0, (omega (arith, c .before .loop-test .taken), copied-next 0 (a .src .now) (l .dst) (l .i) (omega (arith, c .before .loop-test .taken, l .inv .0)) (l .inv .1 .1)))
+    let a = c .before .before .before .args in let l = c .before .before .loop in (
+      length-set (l .dst) (l .i) (getD (a .src .now) (l .i) 0) ∙ l .inv .0,
+      (
+        omega (arith, c .before .loop-test .taken),
+        copied-next 0 (a .src .now) (l .dst) (l .i) (omega (arith, c .before .loop-test .taken, l .inv .0))
+            (l .inv .1 .1),
+      ),
+    )
 
-returns : tie.Need-returns Inv-loop μ-loop
-returns c =
-    let a = c .before .before .args in
-    let l = c .before .loop in
-    copied-all 0 (a .src .now) (l .dst) (l .i) (l .inv .0) (c .loop-test .left) (l .inv .1 .1)
-
-pub copy-spec : {M : Type 1} → statement M
-copy-spec =
-    tie.close
-    (tie.spec Inv-loop μ-loop
-    (λ c. (c .pre, (omega arith, λ q l. absurd (omega arith))))
+pub copy-spec : {M : Type 1} → fn.Statement.statement M
+copy-spec = fn.Tie.close (fn.Tie.spec Inv-loop μ-loop (λ c. (c .pre, (omega arith, λ q l. absurd (omega arith))))
     (λ c. search needs) (λ c. search needs) (λ c. search needs) (λ c. search needs) (λ c. search needs) (λ c. search needs) loop-again
     (λ c. c .before .loop .inv .0 ∙ sym (c .before .before .pre))
-    returns)
+    (λ c. let a = c .before .before .args in let l = c .before .loop in
+    copied-all 0 (a .src .now) (l .dst) (l .i) (l .inv .0) (c .loop-test .left) (l .inv .1 .1)))

@@ -1,78 +1,70 @@
 -- `remainder::inner::drive::drive` meets its contract. Assumes nothing.
-use Prim.Native.Nat.{ℕ, _-_, _≤_}
-use native.Mathlib.Omega.{arith}
-use mathlib.Core.Logic.{⊎-elim}
-use mathlib.Core.Path.{_≡_, refl, sym, ap, _∙_}
-use lib.ListN.{length}
-use borrow.Author.Needs.{needs}
+use Rattle.sequences.proofs.Basics.{_≡_, refl, sym, ap, _∙_, ℕ, _-_, _≤_, arith, ⊎-elim, length, needs}
 use Rattle.schedule.specs.Buffers.{Two, alternated}
 use Rattle.remainder.specs.Calls.{stageOf}
 use Rattle.schedule.proofs.Buffers.{even-next, odd-next}
 use Rattle.remainder.proofs.Runs.{even-workable, odd-workable, both-lengths}
-use Rattle.remainder.proofs.inner.drive.drive.Statement.{statement}
-use Rattle.remainder.proofs.inner.drive.drive.Tie as tie
+use Rattle.remainder.proofs.inner.drive.drive as fn
 
-abbrev Inv-loop : tie.InvT-loop
-Inv-loop plan m w data₀ scratch₀ count k₀ «data» scratch k = (k ≤ count) × ((«data» ≡ alternated (λ j. stageOf plan j m w) k (data₀, scratch₀) .0) × (scratch ≡ alternated (λ j. stageOf plan j m w) k (data₀, scratch₀) .1))
+abbrev Inv-loop : fn.Tie.InvT-loop
+Inv-loop plan m w data₀ scratch₀ count k₀ «data» scratch k = (k ≤ count)
+    × ((«data» ≡ alternated (λ j. stageOf plan j m w) k (data₀, scratch₀) .0) × (scratch ≡ alternated (λ j. stageOf plan j m w) k (data₀, scratch₀) .1))
 
-abbrev μ-loop : tie.MeasureT-loop
+abbrev μ-loop : fn.Tie.MeasureT-loop
 μ-loop plan m w data₀ scratch₀ count k₀ «data» scratch k = count - k
 
-loop-holds : tie.Need-loop-holds Inv-loop μ-loop
+loop-holds : fn.Tie.Need-loop-holds Inv-loop μ-loop
 unfolding alternated
 loop-holds c = (omega arith, (refl, refl))
 
-work-requires : tie.Need-work-requires Inv-loop μ-loop
+work-requires : fn.Tie.Need-work-requires Inv-loop μ-loop
 work-requires c κs =
-    let s = c .before .before .before .before .before .before .before in
-    let a = s .args in
+    let s = c .before .before .before .before .before .before .before in let a = s .args in
     let l = c .before .before .before .before .loop in
-    even-workable (a .plan) (a .m) (a .w) (a .«data» .now) (a .scratch .now) _ (s .pre) (l .k) (c .before .before .before .loop-test .taken) (c .before .before .if1 .taken) (l .«data») (length (l .scratch)) (l .inv .1 .0) (ap length (l .inv .1 .1) ∙ both-lengths (a .plan) (a .m) (a .w) (a .«data» .now) (a .scratch .now) (s .pre .lent .long) (s .pre .wide) (l .k) .1)
+    even-workable (a .plan) (a .m) (a .w) (a .«data» .now) (a .scratch .now) _ (s .pre) (l .k) (c .before .before .before .loop-test .taken)
+    (c .before .before .if1 .taken) (l .«data») (length (l .scratch)) (l .inv .1 .0)
+    (ap length (l .inv .1 .1) ∙ both-lengths (a .plan) (a .m) (a .w) (a .«data» .now) (a .scratch .now) (s .pre .lent .long) (s .pre .wide) (l .k) .1)
 
-work-requires-2 : tie.Need-work-requires-2 Inv-loop μ-loop
+work-requires-2 : fn.Tie.Need-work-requires-2 Inv-loop μ-loop
 work-requires-2 c κs =
-    let s = c .before .before .before .before .before .before .before in
-    let a = s .args in
+    let s = c .before .before .before .before .before .before .before in let a = s .args in
     let l = c .before .before .before .before .loop in
-    odd-workable (a .plan) (a .m) (a .w) (a .«data» .now) (a .scratch .now) _ (s .pre) (l .k) (c .before .before .before .loop-test .taken) (c .before .before .if1 .left) (l .scratch) (length (l .«data»)) (l .inv .1 .1) (ap length (l .inv .1 .0) ∙ both-lengths (a .plan) (a .m) (a .w) (a .«data» .now) (a .scratch .now) (s .pre .lent .long) (s .pre .wide) (l .k) .0)
+    odd-workable (a .plan) (a .m) (a .w) (a .«data» .now) (a .scratch .now) _ (s .pre) (l .k) (c .before .before .before .loop-test .taken)
+    (c .before .before .if1 .left) (l .scratch) (length (l .«data»)) (l .inv .1 .1)
+    (ap length (l .inv .1 .0) ∙ both-lengths (a .plan) (a .m) (a .w) (a .«data» .now) (a .scratch .now) (s .pre .lent .long) (s .pre .wide) (l .k) .0)
 
-loop-again : tie.Need-loop-again Inv-loop μ-loop
+loop-again : fn.Tie.Need-loop-again Inv-loop μ-loop
 loop-again c =
-    let s = c .before .before .before .before .before in
-    let a = s .args in
+    let s = c .before .before .before .before .before in let a = s .args in
     let l = c .before .before .loop in (
       omega (arith, c .before .loop-test .taken),
       ⊎-elim
-          (λ e. even-next (λ j. stageOf (a .plan) j (a .m) (a .w)) (a .«data» .now, a .scratch .now) (l .k) (l .«data») (l .scratch) (c .if1 .«data») (c .if1 .scratch) (e .0 .taken) (l .inv .1 .0) (e .6) (e .7 ∙ e .3 .ensures))
-          (λ e. odd-next (λ j. stageOf (a .plan) j (a .m) (a .w)) (a .«data» .now, a .scratch .now) (l .k) (l .«data») (l .scratch) (c .if1 .«data») (c .if1 .scratch) (e .0 .left) (l .inv .1 .1) (e .6 ∙ e .3 .ensures) (e .7))
+          (λ e. even-next (λ j. stageOf (a .plan) j (a .m) (a .w)) (a .«data» .now, a .scratch .now) (l .k) (l .«data») (l .scratch) (c .if1 .«data»)
+          (c .if1 .scratch) (e .0 .taken) (l .inv .1 .0) (e .6) (e .7 ∙ e .3 .ensures))
+          (λ e. odd-next (λ j. stageOf (a .plan) j (a .m) (a .w)) (a .«data» .now, a .scratch .now) (l .k) (l .«data») (l .scratch) (c .if1 .«data»)
+          (c .if1 .scratch) (e .0 .left) (l .inv .1 .1) (e .6 ∙ e .3 .ensures) (e .7))
           (c .if1 .came),
     )
 
-same-length : tie.Need-same-length Inv-loop μ-loop
+same-length : fn.Tie.Need-same-length Inv-loop μ-loop
 same-length c =
-    let s = c .before .before .before .before in
-    let a = s .args in
-    let l = c .before .loop in
-    ap length (l .inv .1 .0) ∙ both-lengths (a .plan) (a .m) (a .w) (a .«data» .now) (a .scratch .now) (s .pre .lent .long) (s .pre .wide) (l .k) .0 ∙ sym (s .pre .lent .long)
+    let s = c .before .before .before .before in let a = s .args in let l = c .before .loop in
+    ap length (l .inv .1 .0) ∙ both-lengths (a .plan) (a .m) (a .w) (a .«data» .now) (a .scratch .now) (s .pre .lent .long) (s .pre .wide) (l .k) .0
+    ∙ sym (s .pre .lent .long)
 
-same-length-2 : tie.Need-same-length-2 Inv-loop μ-loop
+same-length-2 : fn.Tie.Need-same-length-2 Inv-loop μ-loop
 same-length-2 c =
-    let s = c .before .before .before .before in
-    let a = s .args in
-    let l = c .before .loop in
-    ap length (l .inv .1 .1) ∙ both-lengths (a .plan) (a .m) (a .w) (a .«data» .now) (a .scratch .now) (s .pre .lent .long) (s .pre .wide) (l .k) .1 ∙ sym (s .pre .wide)
+    let s = c .before .before .before .before in let a = s .args in let l = c .before .loop in
+    ap length (l .inv .1 .1) ∙ both-lengths (a .plan) (a .m) (a .w) (a .«data» .now) (a .scratch .now) (s .pre .lent .long) (s .pre .wide) (l .k) .1
+    ∙ sym (s .pre .wide)
 
-returns : tie.Need-returns Inv-loop μ-loop
+returns : fn.Tie.Need-returns Inv-loop μ-loop
 returns c =
-    let s = c .before .before .before .before in
-    let a = s .args in
-    let l = c .before .loop in
+    let s = c .before .before .before .before in let a = s .args in let l = c .before .loop in
     let e : l .k ≡ a .plan .count = omega (arith, l .inv .0, c .loop-test .left) in
     let f : ℕ → Two ℕ = λ n. alternated (λ j. stageOf (a .plan) j (a .m) (a .w)) n (a .«data» .now, a .scratch .now) in
     (l .inv .1 .0 ∙ ap (λ (n : ℕ). f n .0) e, l .inv .1 .1 ∙ ap (λ (n : ℕ). f n .1) e)
 
-pub drive-spec : {M : Type 1} → statement M
-drive-spec =
-    tie.close
-    (tie.spec Inv-loop μ-loop loop-holds work-requires work-requires-2 (λ c. search needs) (λ c. search needs) loop-again same-length
+pub drive-spec : {M : Type 1} → fn.Statement.statement M
+drive-spec = fn.Tie.close (fn.Tie.spec Inv-loop μ-loop loop-holds work-requires work-requires-2 (λ c. search needs) (λ c. search needs) loop-again same-length
     same-length-2 returns)

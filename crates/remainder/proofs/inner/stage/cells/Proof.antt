@@ -1,50 +1,41 @@
 -- `remainder::inner::stage::cells` meets its contract. Assumes nothing.
-use mathlib.Core.Path.{_≡_, refl}
-use Prim.Native.Nat.{ℕ, _+_, _-_, _*_, _%_, _^_, _≤_, _<_}
-use native.Mathlib.Omega.{arith}
-use borrow.Author.Needs.{needs}
-use lib.ListN.{getD, length, length-set}
+use Rattle.sequences.proofs.Basics.{_≡_, refl, ℕ, _+_, _-_, _*_, _%_, _^_, _≤_, _<_, arith, getD, length, length-set, needs}
 use Rattle.remainder.specs.Parts.{readOf}
 use Rattle.remainder.proofs.Iteration.{power-one, read-first, read-scaled}
 use Rattle.remainder.proofs.Powers.{next-power, below-mod, product-fits}
 use Rattle.schedule.proofs.Fill.{set-more}
-use Rattle.remainder.proofs.inner.stage.cells.Statement.{statement}
-use Rattle.remainder.proofs.inner.stage.cells.Tie as tie
+use Rattle.remainder.proofs.inner.stage.cells as fn
 
-abbrev Inv-loop : tie.InvT-loop
+abbrev Inv-loop : fn.Tie.InvT-loop
 Inv-loop src i apart v r m x c₀ power₀ q₀ c power q =
     (0 < q) × (q ≤ r) × (length c ≡ 8) × (power ≡ v ^ q % m) × ((k : ℕ) → k < q → getD c k 0 ≡ readOf m v apart src i k)
 
-abbrev μ-loop : tie.MeasureT-loop
+abbrev μ-loop : fn.Tie.MeasureT-loop
 μ-loop src i apart v r m x c₀ power₀ q₀ c power q = r - q
 
-loop-holds : tie.Need-loop-holds Inv-loop μ-loop
+loop-holds : fn.Tie.Need-loop-holds Inv-loop μ-loop
 loop-holds c =
-    let a = c .before .args in
-    let h = c .before .pre in
+    let a = c .before .args in let h = c .before .pre in
     let first = read-first (a .m) (a .v) (a .apart) (a .src .now) (a .i) (h .cells (a .i) (omega (arith, h .reads 0 (h .some)))) in
     (omega arith, omega arith, refl, power-one (a .v) (a .m) (h .power), λ k l. let e : k ≡ 0 = omega arith in rw e first)
 
-cast-c : tie.Need-cast-c Inv-loop μ-loop
-cast-c c =
-    let a = c .before .before .before .before .args in
-    omega (arith, c .shared-slice-known2 .given (a .i + c .before .before .loop .q * a .apart))
-
-mul-c-3 : tie.Need-mul-c-3 Inv-loop μ-loop
+mul-c-3 : fn.Tie.Need-mul-c-3 Inv-loop μ-loop
 mul-c-3 c =
-    let a = c .before .before .before .before in
-    let l = c .before .before .loop in
-    let h = a .pre in
-    record { fits = product-fits _ (l .power) (a .args .m) (h .cells _ (h .reads (l .q) (c .before .loop-test .taken))) (below-mod (l .power) _ (a .args .m) (l .inv .3) (omega (arith, h .modulus .two))) (h .modulus .small) }
+    let a = c .before .before .before .before in let l = c .before .before .loop in let h = a .pre in
+    record {
+      fits = product-fits _ (l .power) (a .args .m) (h .cells _ (h .reads (l .q) (c .before .loop-test .taken)))
+          (below-mod (l .power) _ (a .args .m) (l .inv .3) (omega (arith, h .modulus .two))) (h .modulus .small);
+    }
 
-mul-power : tie.Need-mul-power Inv-loop μ-loop
+mul-power : fn.Tie.Need-mul-power Inv-loop μ-loop
 mul-power c =
-    let a = c .before .before .before .before in
-    let l = c .before .before .loop in
-    let h = a .pre in
-    record { fits = product-fits (l .power) (a .args .v) (a .args .m) (below-mod (l .power) _ (a .args .m) (l .inv .3) (omega (arith, h .modulus .two))) (h .power) (h .modulus .small) }
+    let a = c .before .before .before .before in let l = c .before .before .loop in let h = a .pre in
+    record {
+      fits = product-fits (l .power) (a .args .v) (a .args .m) (below-mod (l .power) _ (a .args .m) (l .inv .3) (omega (arith, h .modulus .two)))
+          (h .power) (h .modulus .small);
+    }
 
-loop-again : tie.Need-loop-again Inv-loop μ-loop
+loop-again : fn.Tie.Need-loop-again Inv-loop μ-loop
 loop-again c =
     let a = c .before .before .before .before .args in
     let l = c .before .before .loop in (
@@ -55,17 +46,15 @@ loop-again c =
       set-more _ (l .c) (l .q) _ 0 (omega arith) (read-scaled (a .m) (a .v) (a .apart) (a .src .now) (a .i) (l .q) (l .power) (l .inv .3)) (l .inv .4),
     )
 
-pub cells-spec : {M : Type 1} → statement M
-cells-spec =
-    tie.close
-    (tie.spec Inv-loop μ-loop
-    (λ c. let a = c .pre in omega (arith, a .reads 0 (a .some)))
+pub cells-spec : {M : Type 1} → fn.Statement.statement M
+cells-spec = fn.Tie.close (fn.Tie.spec Inv-loop μ-loop (λ c. let a = c .pre in omega (arith, a .reads 0 (a .some)))
     (λ c. let a = c .before .pre in omega (arith, a .reads 0 (a .some)))
     (λ c. omega (arith, c .shared-slice-known .given (c .before .args .i)))
-    loop-holds
-    (λ c. omega (arith, c .before .before .before .pre .reads (c .before .loop .q) (c .loop-test .taken)))
+    loop-holds (λ c. omega (arith, c .before .before .before .pre .reads (c .before .loop .q) (c .loop-test .taken)))
     (λ c. omega (arith, c .before .before .before .pre .reads (c .before .loop .q) (c .loop-test .taken)))
     (λ c. omega (arith, c .before .before .before .pre .reads (c .before .loop .q) (c .loop-test .taken)))
     (λ c. omega (arith, c .before .before .before .before .pre .reads (c .before .before .loop .q) (c .before .loop-test .taken)))
-    cast-c mul-c-3 (λ c. search needs) (λ c. search needs) (λ c. search needs) mul-power (λ c. search needs) (λ c. search needs) (λ c. search needs) loop-again
+    (λ c. let a = c .before .before .before .before .args in
+    omega (arith, c .shared-slice-known2 .given (a .i + c .before .before .loop .q * a .apart))) mul-c-3 (λ c. search needs) (λ c. search needs)
+    (λ c. search needs) mul-power (λ c. search needs) (λ c. search needs) (λ c. search needs) loop-again
     (λ c. λ q l. c .before .loop .inv .4 q (omega arith)))

@@ -1,24 +1,18 @@
 -- `remainder::inner::stage::work` meets its contract. Assumes nothing.
-use Prim.Native.Nat.{_<_}
-use native.Mathlib.Omega.{arith}
+use Rattle.sequences.proofs.Basics.{_<_, arith, needs}
 use Rattle.plan.proofs.Bounds.{plan-order}
 use Rattle.schedule.proofs.Plans.{found-some, found-stride}
 use Rattle.remainder.specs.Residues.{Under}
 use Rattle.remainder.proofs.Columns.{work-staged, work-done}
 use Rattle.remainder.proofs.Powers.{below-mod}
-use borrow.Author.Needs.{needs}
-use Rattle.remainder.proofs.inner.stage.work.Statement.{statement}
-use Rattle.remainder.proofs.inner.stage.work.Tie as tie
+use Rattle.remainder.proofs.inner.stage.work as fn
 
-div-power : tie.Need-div-power
-div-power c = let a = c .before .before .before .before in rw (c .before .stride .ensures) (found-stride (a .args .t1) (a .pre .planned) (a .args .j) (a .pre .known))
-
-powers-requires : tie.Need-powers-requires
+powers-requires : fn.Tie.Need-powers-requires
 powers-requires c κs =
     let a = c .before .before .before .before .before .before in
     (a .pre .modulus .two, (a .pre .modulus .small, below-mod (c .power2 .result) _ (a .args .m) (c .power2 .ensures) (omega (arith, a .pre .modulus .two))))
 
-columns-requires : tie.Need-columns-requires
+columns-requires : fn.Tie.Need-columns-requires
 columns-requires c κs =
     let a = c .before .before .before .before .before .before .before .before in
     let two : 0 < a .args .m = omega (arith, a .pre .modulus .two) in
@@ -26,18 +20,17 @@ columns-requires c κs =
     let staged = work-staged (a .args .t1) (a .args .j) (a .args .m) (a .args .w) (a .args .src .now) _ (a .pre) (c .before .powers .result) turns in
     (rw (c .before .before .before .before .before .stride .ensures) staged, below-mod _ _ (a .args .m) (c .before .before .before .power .ensures) two)
 
-returns : tie.Need-returns
+returns : fn.Tie.Need-returns
 returns c =
-    let a = c .before .before .before .before .before .before .before .before .before .before .before in
-    let e = c .before .before .before .before .before .before .before .before .stride .ensures in
-    work-done (a .args .t1) (a .args .j) (a .args .m) (a .args .w) (a .args .src .now) _ (a .pre) _ _ _ (c .before .before .columns .last .1 .0)
-    (rw e at (c .before .before .before .before .before .before .power .ensures)) (c .before .before .before .before .before .power2 .ensures) (c .before .before .before .before .powers .ensures) (c .before .before .columns .kept .1 .0) (rw e at (c .before .before .columns .ensures))
+    let c2 = c .before .before in let c4 = c2 .before .before in let c6 = c4 .before .before in let c8 = c6 .before .before in
+    let a = c8 .before .before .before in let e = c8 .stride .ensures in
+    work-done (a .args .t1) (a .args .j) (a .args .m) (a .args .w) (a .args .src .now) _ (a .pre) _ _ _ (c2 .columns .last .1 .0)
+    (rw e at (c6 .power .ensures)) (c4 .before .power2 .ensures) (c4 .powers .ensures) (c2 .columns .kept .1 .0) (rw e at (c2 .columns .ensures))
 
-pub work-spec : {M : Type 1} → statement M
-work-spec =
-    tie.close
-    (tie.spec (λ c κs. search needs)
+pub work-spec : {M : Type 1} → fn.Statement.statement M
+work-spec = fn.Tie.close (fn.Tie.spec (λ c κs. search needs)
     (λ c. let a = c .before .before .before in omega (arith, a .pre .known, plan-order (a .args .t1) (a .pre .planned) .few))
-    (λ c. search needs)
-    (λ c. let a = c .before .before .before .before in found-some (a .args .t1) (a .pre .planned) (a .args .j) (a .pre .known))
-    div-power (λ c κs. search needs) (λ c κs. search needs) powers-requires columns-requires (λ c. search needs) returns)
+    (λ c. search needs) (λ c. let a = c .before .before .before .before in found-some (a .args .t1) (a .pre .planned) (a .args .j) (a .pre .known))
+    (λ c. let a = c .before .before .before .before in
+    rw (c .before .stride .ensures) (found-stride (a .args .t1) (a .pre .planned) (a .args .j) (a .pre .known))) (λ c κs. search needs)
+    (λ c κs. search needs) powers-requires columns-requires (λ c. search needs) returns)

@@ -1,12 +1,11 @@
 -- `scaling::inner::scaling::refused` meets its contract. Assumes nothing.
-use mathlib.Core.Path.{refl}
+use Rattle.sequences.proofs.Basics.{refl}
 use Rattle.scaling.specs.Scaling.{refusedScaling}
-use Rattle.scaling.proofs.inner.scaling.refused.Statement.{statement}
-use Rattle.scaling.proofs.inner.scaling.refused.Tie as tie
+use Rattle.scaling.proofs.inner.scaling.refused as fn
 
-returns : tie.Need-returns
+returns : fn.Tie.Need-returns
 unfolding refusedScaling
 returns c = refl
 
-pub refused-spec : {M : Type 1} → statement M
-refused-spec = tie.close (tie.spec returns)
+pub refused-spec : {M : Type 1} → fn.Statement.statement M
+refused-spec = fn.Tie.close (fn.Tie.spec returns)

@@ -1,17 +1,14 @@
 -- `transform::inner::stages::from_pad` meets its contract. Assumes nothing.
 use Rattle.transform.proofs.Transforms.{pad-restored}
-use borrow.Author.Needs.{needs}
-use Rattle.transform.proofs.inner.stages.from_pad.Statement.{statement}
-use Rattle.transform.proofs.inner.stages.from_pad.Tie as tie
+use Rattle.sequences.proofs.Basics.{needs}
+use Rattle.transform.proofs.inner.stages.from_pad as fn
 
-returns : tie.Need-returns
+returns : fn.Tie.Need-returns
 returns c =
-    let a = c .before .before .before .before .before .before .before .before .before .before .before .before .before .before .before .before .args in
-    let o = c .before .before .before .before .before .before .before .before .before .before .before .before .conjugate-front .ensures in
-    (pad-restored (a .h) (a .scratch .now) (a .output .now) _ _ _ o (c .before .before .before .before .before .before .before .copy-front .ensures) (c .before .before .copy-front2 .ensures), o)
+    let c7 = c .before .before .before .before .before .before .before in let c12 = c7 .before .before .before .before .before in
+    let a = c12 .before .before .before .before .args in let o = c12 .conjugate-front .ensures in
+    (pad-restored (a .h) (a .scratch .now) (a .output .now) _ _ _ o (c7 .copy-front .ensures) (c .before .before .copy-front2 .ensures), o)
 
-pub from-pad-spec : {M : Type 1} → statement M
-from-pad-spec =
-    tie.close
-    (tie.spec (λ c κs. search needs) (λ c κs. search needs) (λ c. search needs) (λ c κs. search needs) (λ c. search needs)
+pub from-pad-spec : {M : Type 1} → fn.Statement.statement M
+from-pad-spec = fn.Tie.close (fn.Tie.spec (λ c κs. search needs) (λ c κs. search needs) (λ c. search needs) (λ c κs. search needs) (λ c. search needs)
     (λ c. search needs) returns)

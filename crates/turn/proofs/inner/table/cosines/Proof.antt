@@ -1,12 +1,11 @@
 -- `turn::inner::table::cosines` meets its contract. Assumes nothing.
-use mathlib.Core.Path.{refl}
+use Rattle.sequences.proofs.Basics.{refl}
 use Rattle.turn.specs.House.{cosines}
-use Rattle.turn.proofs.inner.table.cosines.Statement.{statement}
-use Rattle.turn.proofs.inner.table.cosines.Tie as tie
+use Rattle.turn.proofs.inner.table.cosines as fn
 
-returns : tie.Need-returns
+returns : fn.Tie.Need-returns
 unfolding cosines
 returns c = refl
 
-pub cosines-spec : {M : Type 1} → statement M
-cosines-spec = tie.close (tie.spec returns)
+pub cosines-spec : {M : Type 1} → fn.Statement.statement M
+cosines-spec = fn.Tie.close (fn.Tie.spec returns)

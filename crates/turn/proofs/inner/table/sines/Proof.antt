@@ -1,12 +1,11 @@
 -- `turn::inner::table::sines` meets its contract. Assumes nothing.
-use mathlib.Core.Path.{refl}
+use Rattle.sequences.proofs.Basics.{refl}
 use Rattle.turn.specs.House.{sines}
-use Rattle.turn.proofs.inner.table.sines.Statement.{statement}
-use Rattle.turn.proofs.inner.table.sines.Tie as tie
+use Rattle.turn.proofs.inner.table.sines as fn
 
-returns : tie.Need-returns
+returns : fn.Tie.Need-returns
 unfolding sines
 returns c = refl
 
-pub sines-spec : {M : Type 1} → statement M
-sines-spec = tie.close (tie.spec returns)
+pub sines-spec : {M : Type 1} → fn.Statement.statement M
+sines-spec = fn.Tie.close (fn.Tie.spec returns)

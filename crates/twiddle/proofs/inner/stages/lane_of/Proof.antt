@@ -1,36 +1,21 @@
 -- `twiddle::inner::stages::lane_of` meets its contract. Assumes nothing.
-use native.Mathlib.Nat.{mod-lt}
-use native.Mathlib.Omega.{arith}
-use mathlib.Core.Path.{refl}
+use Rattle.sequences.proofs.Basics.{refl, mod-lt, arith, needs}
 use Rattle.twiddle.proofs.Lanes.{lane-apart, lone-apart, width-small, lane-small, lone-small}
-use borrow.Author.Needs.{needs}
-use Rattle.twiddle.proofs.inner.stages.lane_of.Statement.{statement}
-use Rattle.twiddle.proofs.inner.stages.lane_of.Tie as tie
+use Rattle.twiddle.proofs.inner.stages.lane_of as fn
 
-mul-t10 : tie.Need-mul-t10
-mul-t10 c = omega (arith, width-small (c .before .args .width) (c .before .args .r) (c .before .pre .narrow) (c .before .pre .eight))
-
-mul-t11 : tie.Need-mul-t11
-mul-t11 c = omega (arith, lane-small (c .before .args .i) (c .before .args .width) (c .before .args .r) (c .before .pre .early) (c .before .pre .narrow) (c .before .pre .eight))
-
-add-t13 : tie.Need-add-t13
-add-t13 c = omega (arith, lane-small (c .before .args .i) (c .before .args .width) (c .before .args .r) (c .before .pre .early) (c .before .pre .narrow) (c .before .pre .eight), mod-lt (c .before .args .i) (c .before .pre .lane))
-
-returns : tie.Need-returns
-returns c =
-    let a = c .before .args in
-    λ m e. record { column = refl; stands = λ k. lane-apart m (a .r) (a .width) (a .i) (a .whole) e k (c .if1 .taken); near = c .before .pre .narrow }
-
-mul-t14 : tie.Need-mul-t14
-mul-t14 c = omega (arith, lone-small (c .before .args .i) (c .before .args .r) (c .before .pre .early) (c .before .pre .eight))
-
-returns-2 : tie.Need-returns-2
-returns-2 c =
-    let a = c .before .args in
-    λ m e. record { column = refl; stands = λ k. lone-apart m (a .r) (a .width) (a .i) (a .whole) e k (c .if1 .left); near = omega arith }
-
-pub lane-of-spec : {M : Type 1} → statement M
-lane-of-spec =
-    tie.close
-    (tie.spec (λ c. search needs) (λ c. search needs) (λ c. search needs) mul-t10 mul-t11 (λ c. search needs) add-t13 returns mul-t14
-    returns-2)
+pub lane-of-spec : {M : Type 1} → fn.Statement.statement M
+lane-of-spec = fn.Tie.close
+    (fn.Tie.spec (λ c. search needs) (λ c. search needs) (λ c. search needs)
+    (λ c. omega (arith, width-small (c .before .args .width) (c .before .args .r) (c .before .pre .narrow) (c .before .pre .eight))) (λ c. let c1 = c .before in
+    omega (arith, lane-small (c1 .args .i) (c1 .args .width) (c1 .args .r) (c1 .pre .early) (c1 .pre .narrow) (c1 .pre .eight))) (λ c. search needs)
+    (λ c. let c1 = c .before in
+    omega (
+      arith,
+      lane-small (c1 .args .i) (c1 .args .width) (c1 .args .r) (c1 .pre .early) (c1 .pre .narrow) (c1 .pre .eight),
+      mod-lt (c1 .args .i) (c1 .pre .lane),
+    )) (λ c. let a = c .before .args in
+    λ m e.
+    record { column = refl; stands = λ k. lane-apart m (a .r) (a .width) (a .i) (a .whole) e k (c .if1 .taken); near = c .before .pre .narrow })
+    (λ c. omega (arith, lone-small (c .before .args .i) (c .before .args .r) (c .before .pre .early) (c .before .pre .eight)))
+    (λ c. let a = c .before .args in
+    λ m e. record { column = refl; stands = λ k. lone-apart m (a .r) (a .width) (a .i) (a .whole) e k (c .if1 .left); near = omega arith }))
