@@ -1,14 +1,12 @@
 // Replays what inner functions alone show: puts each record's question to the library and counts the answers that differ.
 // The records are in the files `planning`, `layouts`, `places`, `ends` and `inverse`, or in the five files that the arguments
 // name; oracle/src/text.rs says what stands in a record, and tests/replay.c replays what public calls show.
-mod places;
-mod plans;
 mod spectra;
-mod text;
-mod words;
 
 use libc::STDOUT_FILENO;
-use text::read_line;
+use recorded::inner::places;
+use recorded::inner::plans;
+use recorded::inner::text::read_line;
 ghost use Prim.Native.Nat.{_+_, _≤_, _<_};
 
 // Which answers a file records: half lists, where twiddles stand, by a checksum and place by place, the steps at the ends

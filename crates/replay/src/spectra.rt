@@ -1,12 +1,5 @@
 // The cases of a length: whose twiddles are lent, the kind of what is read, a seed, and checksums of what is left. The steps at the ends
 // alone are asked once each, and inverse transforms, by the unguarded core, at every width.
-use crate::places::pack;
-use crate::plans::asked;
-use crate::text::number;
-use crate::text::read_line;
-use crate::words::fill;
-use crate::words::read;
-use crate::words::summed;
 use counts::inner::stages::end_count;
 use counts::inner::stages::twiddle_start;
 use ends::inner::cells::postprocess_fft;
@@ -14,6 +7,13 @@ use ends::inner::cells::preprocess_ifft;
 use ends::inner::words::conjugate;
 use plan::Record;
 use plan::inner::records::is_planned;
+use recorded::inner::places::pack;
+use recorded::inner::plans::asked;
+use recorded::inner::text::number;
+use recorded::inner::text::read_line;
+use recorded::inner::words::fill;
+use recorded::inner::words::read;
+use recorded::inner::words::summed;
 use transform::inner::directions::inverse;
 use twiddle::inner::check::is_width;
 ghost use mathlib.Core.Path.{_≡_};
