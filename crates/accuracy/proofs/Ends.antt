@@ -14,7 +14,8 @@ use Rattle.accuracy.proofs.Circle.{quarter}
 use Rattle.accuracy.proofs.Complexes.{plus-off, mul-off, mul-near, part-re, part-im, mag-abs, abs-times, near-abs}
 use Rattle.accuracy.proofs.Conjugate.{conjG}
 use Rattle.accuracy.proofs.Floats.{plusC, mulC, turnedC}
-use Rattle.accuracy.proofs.Plane.{triangle, Same, off-same, off-eq, off-more, off-sym, off-trans, off-plus, off-scale, off-unscale, off-times, disc-near, disc-unscale, disc-more, disc-scale, disc-plus, disc-same, disc-times}
+use Rattle.accuracy.proofs.Plane.{triangle, Same, off-same, off-eq, off-more, off-sym, off-trans, off-plus, off-scale, off-unscale, off-times, disc-near}
+use Rattle.accuracy.proofs.Plane.{disc-unscale, disc-more, disc-scale, disc-plus, disc-same, disc-times}
 use Rattle.accuracy.proofs.Rounded.{half}
 use Rattle.accuracy.proofs.Rounds.{Around}
 use Rattle.accuracy.proofs.Turned.{turn-within, turn-size, times-off}
@@ -378,7 +379,8 @@ module _ (A B : Complex) (ω : ℕ) (least : 2 ^ 20 ≤ ω) (most : ω ≤ 2 ^ 2
   q-off : Held binary32 (Qf .re) × Held binary32 (Qf .im) × Off (m + m) (scaleG (2 ^ 24) (valC Qf)) (scaleG (2 ^ 24) Q)
   unfolding Qf conjC
   q-off =
-      let o = plus-off A (conjC B) (m + m) (wide A pA) (wide (conjC B) conj-around) (disc-plus m m (valC A) (valC (conjC B)) (pA .disc) (conj-around .disc)) in (
+      let o = plus-off A (conjC B) (m + m) (wide A pA) (wide (conjC B) conj-around)
+      (disc-plus m m (valC A) (valC (conjC B)) (pA .disc) (conj-around .disc)) in (
         o .0,
         o .1,
         subst (λ (v : Signed). Off (m + m) (scaleG (2 ^ 24) (valC (plusC A (conjC B))))

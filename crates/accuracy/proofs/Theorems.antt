@@ -31,10 +31,12 @@ use Rattle.finite.specs.Sizes.{Words}
 use Rattle.finite.proofs.Calls.{samples-within, bins-within}
 use Rattle.accuracy.specs.Gauss.{Gauss, scaleG, Disc, Off, valC}
 use Rattle.accuracy.specs.House.{house}
-use Rattle.accuracy.specs.Spectrum.{sample, exactBin, F32s, Sized, SixteenBit, factor, distance, sumZ, exactSample, inverseDistance, tone, Correlates, IsUnits}
+use Rattle.accuracy.specs.Spectrum.{sample, exactBin, F32s, Sized, SixteenBit, factor, distance, sumZ, exactSample, inverseDistance, tone, Correlates}
+use Rattle.accuracy.specs.Spectrum.{IsUnits}
 use Rattle.accuracy.specs.Value.{Signed, NearZ, timesZ, scale, absZ, val, Held}
 use Rattle.accuracy.proofs.Bands.{seen-in, quiet-in}
-use Rattle.accuracy.proofs.Calls.{word-held, mag-small, bits-f32s, pair-disc, constant, weight-least, weight-most, error-stages, scaled, root-of-two, tenth, tenth-least, tenth-most, inverse-total, at-least, at-most, sixteen-sized}
+use Rattle.accuracy.proofs.Calls.{word-held, mag-small, bits-f32s, pair-disc, constant, weight-least, weight-most, error-stages, scaled, root-of-two}
+use Rattle.accuracy.proofs.Calls.{tenth, tenth-least, tenth-most, inverse-total, at-least, at-most, sixteen-sized}
 use Rattle.accuracy.proofs.Complexes.{mag-abs, part-re, part-im, abs-near, near-more}
 use Rattle.accuracy.proofs.Dft.{paired}
 use Rattle.accuracy.proofs.Forward.{samples-long, bins-long, bin-near}

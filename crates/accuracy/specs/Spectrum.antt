@@ -93,7 +93,8 @@ power z = absZ (z .re) * absZ (z .re) + absZ (z .im) * absZ (z .im)
 -- the n = 2 h words go along a tone at k by C: r, the tone's size and phase, is at most A, and C / A is counted in parts of 2 ^ -209, as exact bins are
 pub record Correlates (h : ℕ) (xs : List Float) (k : ℕ) (r : Gauss) (A C : ℕ) : Type 0 where
   pub size : Disc A r
-  pub enough : C + sumZ (h * 2) (λ i. timesZ (sample xs i) (tone house (6720 / (2 * h)) k r i)) .less ≤ sumZ (h * 2) (λ i. timesZ (sample xs i) (tone house (6720 / (2 * h)) k r i)) .more
+  pub enough : C + sumZ (h * 2) (λ i. timesZ (sample xs i) (tone house (6720 / (2 * h)) k r i)) .less
+      ≤ sumZ (h * 2) (λ i. timesZ (sample xs i) (tone house (6720 / (2 * h)) k r i)) .more
 
 -- x is a number of S units of 2 ^ -149, with no minus sign
 pub record IsUnits (S : ℕ) (x : Float) : Type 0 where

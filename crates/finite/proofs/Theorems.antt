@@ -26,7 +26,8 @@ use Rattle.finite.specs.Sizes.{AtMost, Words, RightForward, RightInverse
 use Rattle.finite.specs.Whole.{IsWhole, Short, Small, Samples, IsBins}
 use Rattle.finite.proofs.Accepted.{lent-accepted, whole-most, words-wider}
 use Rattle.finite.proofs.Bits.{same-word, same-bits}
-use Rattle.finite.proofs.Calls.{stage-lent-within, stage-within, summed-within, power-within, samples-within, forward-within, bins-within, inverse-within}
+use Rattle.finite.proofs.Calls.{stage-lent-within, stage-within, summed-within, power-within, samples-within, forward-within, bins-within}
+use Rattle.finite.proofs.Calls.{inverse-within}
 use Rattle.finite.proofs.Exact.{short-count, forward-whole, inverse-whole}
 use Rattle.finite.proofs.Fillings.{filled-ones}
 

@@ -25,4 +25,5 @@ SameBits xs ys = (bs cs : List ℕ) → HoldAll bs xs → HoldAll cs ys → bs �
 -- the words that a direction writes: the output, Data and, where there are at least so many stages, the Scratchpad
 abbrev pub SameWritten : (stages : ℕ) → Record → Slices → Slices → Type 0
 SameWritten stages p s s′ =
-    SameBits (s .0) (s′ .0) × SameBits (dataOf (p .half) (s .1)) (dataOf (p .half) (s′ .1)) × (stages ≤ p .count → SameBits (padOf (p .half) (s .1)) (padOf (p .half) (s′ .1)))
+    SameBits (s .0) (s′ .0) × SameBits (dataOf (p .half) (s .1)) (dataOf (p .half) (s′ .1))
+    × (stages ≤ p .count → SameBits (padOf (p .half) (s .1)) (padOf (p .half) (s′ .1)))

@@ -1,5 +1,5 @@
--- A float whose rounded square is at most that of 2 ^ k is at most 2 ^ k in magnitude: the next f32 above 2 ^ k has a square above 2 ^ 2k * (1 + 2 ^ -22), which is an f32.
--- Assumes nothing.
+-- A float whose rounded square is at most that of 2 ^ k is at most 2 ^ k in magnitude: the next f32 above 2 ^ k has a square above
+-- 2 ^ 2k * (1 + 2 ^ -22), which is an f32. Assumes nothing.
 use Rattle.sequences.proofs.Basics.{_≡_, refl, sym, ap, _∙_, ℕ, zero, suc, _+_, _-_, _*_, _%_, _^_, _<_, _≤_, le-trans, le-of-eq, lt-of-le-of-lt, lt-of-not-le}
 use Rattle.sequences.proofs.Basics.{mul-le-mul, mul-le-mul-right, mul-pos, one-mul, arith, decLe, Bool, true, false, _&&_, false≢true, dite, T, ltb, leb, eqb}
 use Rattle.sequences.proofs.Basics.{ltb→lt, pow-add, pow-pos, pow-mono, pow-lt, le-leb}

@@ -11,8 +11,10 @@ use Rattle.ladlespindle.specs.declared.Summed.{Summed}
 use Rattle.ladlespindle.specs.declared.Ran.{Ran}
 use Rattle.ladlespindle.specs.declared.Scaling.{Scaling}
 use Rattle.ladlespindle.specs.declared.TurnWords.{TurnWords}
-use Rattle.ladlespindle.specs.Calls.{Gives, GivesTurn, GivesForward, GivesInverse, GivesStage, GivesSpectrum, GivesSamples, GivesPower, GivesRemainderStage, GivesRemainderRun}
-use Rattle.ladlespindle.specs.Exports.{GivesPlan, GivesNumber, GivesPlace, GivesLength, GivesHalf, GivesStages, GivesMerges, GivesRadix, GivesLetter, GivesStageTwiddles, GivesEndTwiddles, GivesResult, GivesAcceptance, GivesScaling}
+use Rattle.ladlespindle.specs.Calls.{Gives, GivesTurn, GivesForward, GivesInverse, GivesStage, GivesSpectrum, GivesSamples, GivesPower}
+use Rattle.ladlespindle.specs.Calls.{GivesRemainderStage, GivesRemainderRun}
+use Rattle.ladlespindle.specs.Exports.{GivesPlan, GivesNumber, GivesPlace, GivesLength, GivesHalf, GivesStages, GivesMerges, GivesRadix, GivesLetter}
+use Rattle.ladlespindle.specs.Exports.{GivesStageTwiddles, GivesEndTwiddles, GivesResult, GivesAcceptance, GivesScaling}
 
 -- ---- planning
 

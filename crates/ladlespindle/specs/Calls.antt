@@ -74,7 +74,8 @@ GivesSpectrum p W stage end input before r after =
 
 abbrev pub GivesSamples : Record → (W : ℕ) → (stage end input : List Float) → Buffers → Answer → Buffers → Type 0
 GivesSamples p W stage end input before r after =
-    Gives (inverseVerdict p W input (length (before .0)) (length (before .1)) stage end) (inverseOf p W stage end input (before .1) (length (before .0))) before r after
+    Gives (inverseVerdict p W input (length (before .0)) (length (before .1)) stage end)
+    (inverseOf p W stage end input (before .1) (length (before .0))) before r after
 
 -- what `ladlespindle_power` promises of its answer: the refusal as two numbers, and the sum
 pub record GivesPower (spectrum : List Float) (lo hi : ℕ) (r : Summed) : Type 0 where

@@ -4,7 +4,8 @@ use Rattle.sequences.proofs.Basics.{true≢false, _⊎_, inl, inr, ⊎-elim, Li
 use Rattle.sequences.proofs.Basics.{length-append, length-replicate, length-set, take-suc-set, length-take-le, paste, leb-true, leb-false, le-leb, lt-leb}
 use Rattle.radices.proofs.Lists.{push-padded, filled-padded}
 use Rattle.radices.specs.Lists.{countOf, padded}
-use Rattle.merging.specs.Merging.{tally, total, applies, merge, firstRule, before, rulesUpTo, rules, mergedBy, merged, letter, letters, marked, mergeAll, sorted}
+use Rattle.merging.specs.Merging.{tally, total, applies, merge, firstRule, before, rulesUpTo, rules, mergedBy, merged, letter, letters, marked, mergeAll}
+use Rattle.merging.specs.Merging.{sorted}
 use Rattle.merging.specs.declared.inner.merging.Tally.{Tally}
 use Rattle.merging.specs.declared.inner.merging.Merged.{Merged}
 use Rattle.merging.specs.declared.inner.merging.Rule.{Rule}

@@ -4,7 +4,8 @@ use mathlib.Core.Path.{_≡_}
 use mathlib.Core.Bool.{Bool, true, false}
 use mathlib.Core.List.{List, [], _∷_}
 use Rattle.refusal.specs.declared.Refusal.{Refusal}
-use Rattle.refusal.specs.declared.Refusal.the-variants.{Empty, NoRadix, TooLarge, Odd, NotPlanned, Width, NotHoused, Length, Number, Twiddle, Modulus, Base, Remainder, Bins, Stage}
+use Rattle.refusal.specs.declared.Refusal.the-variants.{Empty, NoRadix, TooLarge, Odd, NotPlanned, Width, NotHoused, Length, Number, Twiddle, Modulus}
+use Rattle.refusal.specs.declared.Refusal.the-variants.{Base, Remainder, Bins, Stage}
 use Rattle.refusal.specs.declared.Verdict.{Verdict}
 use Rattle.refusal.specs.declared.Verdict.the-variants.{Accepted, Refused}
 

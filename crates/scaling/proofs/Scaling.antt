@@ -15,7 +15,8 @@ use Rattle.radices.specs.declared.inner.lists.Running.{Running}
 use Rattle.radices.specs.Lists.{product, largest, isRadix, firstBad, firstOver, padded, listed, runningProduct}
 use Rattle.scaling.specs.Scaling.{gainFrom, gain, over, gained, listRows, scaleVerdict, refusedScaling, acceptedScaling, scaledBy, scaled}
 use Rattle.radices.proofs.Lists.{product-append, listed-is, push-padded, running-all}
-use Rattle.radices.proofs.Products.{Radical, radical-append, radical-replicate, radical, product-replicate, product-positive, over-none-small, pow-eight, entries-few, bad-none, over-none-at}
+use Rattle.radices.proofs.Products.{Radical, radical-append, radical-replicate, radical, product-replicate, product-positive, over-none-small, pow-eight}
+use Rattle.radices.proofs.Products.{entries-few, bad-none, over-none-at}
 
 -- ---- the smallest power of two
 

@@ -65,4 +65,5 @@ Forwards p W stage end xs before r after =
 -- what `inverse` promises of them
 abbrev pub Inverts : Record → (W : ℕ) → (stage end xs : List Float) → Slices → Verdict → Slices → Type 0
 Inverts p W stage end xs before r after =
-    Settles (inverseVerdict p W xs (length (before .0)) (length (before .1)) stage end) (inverseOf p W stage end xs (before .1) (length (before .0))) before r after
+    Settles (inverseVerdict p W xs (length (before .0)) (length (before .1)) stage end)
+    (inverseOf p W stage end xs (before .1) (length (before .0))) before r after

@@ -1,6 +1,6 @@
 -- What a reader opens first: whether a stage is accepted, and what it then makes, does not depend on the width its twiddles are packed for; with
--- the words of its turns, filled or made by anybody else, a stage and a run are the schedule whose twiddles are its own turns; a refused stage writes nothing. That two outcomes of
--- a call are equal is `Stages-one` of proofs/Unique.antt. Assumes nothing.
+-- the words of its turns, filled or made by anybody else, a stage and a run are the schedule whose twiddles are its own turns; a refused stage
+-- writes nothing. That two outcomes of a call are equal is `Stages-one` of proofs/Unique.antt. Assumes nothing.
 use Rattle.sequences.proofs.Basics.{_≡_, sym, ap, ap₂, _∙_, ℕ, _*_, _/_, _<_, arith, true, List, length}
 use lib.Ieee.{Float, nan}
 use Rattle.refusal.specs.Refusal.{left}

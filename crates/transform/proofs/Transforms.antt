@@ -19,7 +19,8 @@ use Rattle.ends.specs.Parts.{prepared, Endable}
 use Rattle.ends.proofs.Cells.{length-ended, length-conjugated}
 use Rattle.ends.proofs.Prepared.{prepared-is}
 use Rattle.transform.specs.Transforms.{dataOf, padOf, withBoth, forwardRun, forwardOf, preparedOf, inverseRun, restored, inverseOf}
-use Rattle.transform.proofs.Scratch.{data-length, pad-length, data-replaced, tail-replaced, tail-length, front-data, front-drop, front-pad, front-rest, both-pasted, both-data, both-pad, both-rest, run-long, within-beside}
+use Rattle.transform.proofs.Scratch.{data-length, pad-length, data-replaced, tail-replaced, tail-length, front-data, front-drop, front-pad, front-rest}
+use Rattle.transform.proofs.Scratch.{both-pasted, both-data, both-pad, both-rest, run-long, within-beside}
 
 -- a result is one of two buffers of a length
 pub held-long : (n : ℕ) (which : Buffer) (b : Two Float) → length (b .0) ≡ n → length (b .1) ≡ n → length (heldIn which b) ≡ n

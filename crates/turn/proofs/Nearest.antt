@@ -7,7 +7,8 @@ use Rattle.sequences.proofs.Basics.{mod-eq-of-lt, arith, decLe, Bool, true, fal
 use Rattle.sequences.proofs.Basics.{pow-pos, pow-mono, pow-lt, lt-leb, ne-eqb}
 use lib.Count.{trailingZeros, leadingZeros, leading-length}
 use lib.IntN.{pos}
-use lib.Ieee.{Float, nan, inf, fin, Format, binary32, prec, low, emax, up, down, minus, size, odd, units, round, mul, neg, ofInt, ofBits, ofFields, isNan, nanBits, inFloat}
+use lib.Ieee.{Float, nan, inf, fin, Format, binary32, prec, low, emax, up, down, minus, size, odd, units, round, mul, neg, ofInt, ofBits, ofFields, isNan}
+use lib.Ieee.{nanBits, inFloat}
 use lib.Ieee.Digits.{size-lt, size-le, minus-val}
 use lib.Ieee.Fits.{round-is, down-pos}
 use lib.Ieee.Exact.{HasValue}

@@ -1,6 +1,7 @@
 -- `kernel::inner::lanes::store` meets its contract. Assumes nothing.
 use Rattle.sequences.proofs.Basics.{ap₂, ℕ, _+_, _-_, arith, needs}
-use Rattle.kernel.proofs.Batches.{Storing, storing-none, storing-column, storing-asks, storing-room, storing-within, storing-block, storing-lanes, storing-next, storing-all}
+use Rattle.kernel.proofs.Batches.{Storing, storing-none, storing-column, storing-asks, storing-room, storing-within, storing-block, storing-lanes}
+use Rattle.kernel.proofs.Batches.{storing-next, storing-all}
 use Rattle.kernel.proofs.inner.lanes.store as fn
 
 abbrev Inv-loop : fn.Tie.InvT-loop

@@ -19,8 +19,8 @@ mul-if1 : fn.Tie.Need-mul-if1
 mul-if1 c = let c2 = c .before .before in let c3 = c2 .before in let c4 = c3 .before in let c7 = c4 .before .before .before in
     record {
       fits = power-fits (c2 .gain .result) _ _ (c .before .power .ensures)
-          (in-few 0 (c7 .args .in-list .now) (check-base 0 (c7 .args .in-list .now) (c7 .pre .1 .0)) (c4 .running-product .result) (c4 .running-product .ensures)
-          (c7 .args .target) (c7 .pre .0) (c2 .gain .result) (c2 .gain .ensures))
+          (in-few 0 (c7 .args .in-list .now) (check-base 0 (c7 .args .in-list .now) (c7 .pre .1 .0)) (c4 .running-product .result)
+          (c4 .running-product .ensures) (c7 .args .target) (c7 .pre .0) (c2 .gain .result) (c2 .gain .ensures))
           (base-bounds (length (c7 .args .in-list .now)) (c7 .args .out-list .now)
           (check-base (length (c7 .args .in-list .now)) (c7 .args .out-list .now) (c7 .pre .1 .1)) (c3 .running-product2 .result)
           (c3 .running-product2 .ensures) .1);
