@@ -10,13 +10,13 @@ use Rattle.floats.proofs.Signs.{neg-neg}
 use Rattle.ends.specs.Ends.{mixed, fftNear, fftFar, ifftNear, ifftFar}
 use Rattle.accuracy.specs.Gauss.{Gauss, plusG, minusG, timesG, scaleG, Disc, Off, valC}
 use Rattle.accuracy.specs.Value.{Signed, NearZ, negZ, timesZ, scale, absZ, mag, val, Held}
-use Rattle.accuracy.proofs.Circle.{quarter}
+use Rattle.accuracy.proofs.Circle.{quarter, quarter-disc}
 use Rattle.accuracy.proofs.Complexes.{plus-off, mul-off, mul-near, part-re, part-im, mag-abs, abs-times, near-abs}
 use Rattle.accuracy.proofs.Conjugate.{conjG}
 use Rattle.accuracy.proofs.Floats.{plusC, mulC, turnedC}
 use Rattle.accuracy.proofs.Plane.{triangle, Same, off-same, off-eq, off-more, off-sym, off-trans, off-plus, off-scale, off-unscale, off-times, disc-near}
-use Rattle.accuracy.proofs.Plane.{disc-unscale, disc-more, disc-scale, disc-plus, disc-same, disc-times}
-use Rattle.accuracy.proofs.Rounded.{half}
+use Rattle.accuracy.proofs.Plane.{abs-flip, same-60, disc-unscale, disc-more, disc-scale, disc-plus, disc-same, disc-times}
+use Rattle.accuracy.proofs.Rounded.{half, corner}
 use Rattle.accuracy.proofs.Rounds.{Around}
 use Rattle.accuracy.proofs.Turned.{turn-within, turn-size, times-off}
 use Rattle.accuracy.proofs.Turning.{same-self, same-scale-right}
@@ -118,9 +118,6 @@ half-near x hx l =
     swap : (a b : ℕ) → a * b ≡ 1 * b * a
     swap a b = omega arith
 
-corner : (ε : ℕ) → ε * ε + ε * ε ≤ 2 * ε * (2 * ε)
-corner ε = omega arith
-
 half-off : (q : Complex) (m : ℕ) → Around m q → m ≤ 2 ^ 250 → Held binary32 (halfC q .re) × Held binary32 (halfC q .im)
     × Off (m + 2 * (2 * 2 ^ 23)) (scaleG (2 * 2 ^ 24) (valC (halfC q))) (scaleG (2 ^ 24) (valC q))
 unfolding halfC
@@ -139,20 +136,11 @@ half-off q m p small =
     )
 
 -- ---- conjugates
-abs-flip : (x : Signed) → absZ (negZ x) ≡ absZ x
-abs-flip x = omega arith
-
 pub conj-disc : (E : ℕ) (z : Gauss) → Disc E z → Disc E (conjG z)
 conj-disc E z d = record { inside = le-trans (le-of-eq (ap (λ (n : ℕ). absZ (z .re) * absZ (z .re) + n * n) (abs-flip (z .im)))) (d .inside) }
 
 neg-disc : (E : ℕ) (z : Gauss) → Disc E z → Disc E (record { re = negZ (z .re); im = z .im })
 neg-disc E z d = record { inside = le-trans (le-of-eq (ap (λ (n : ℕ). n * n + absZ (z .im) * absZ (z .im)) (abs-flip (z .re)))) (d .inside) }
-
-pub quarter-disc : (E : ℕ) (z : Gauss) → Disc E z → Disc E (quarter z)
-quarter-disc E z d = record { inside = le-trans (le-of-eq (swap (absZ (z .re)) (absZ (z .im)) (absZ (negZ (z .re))) (abs-flip (z .re)))) (d .inside) }
-  where
-    swap : (x y x' : ℕ) → x' ≡ x → y * y + x' * x' ≡ x * x + y * y
-    swap x y x' e = rw e (omega arith)
 
 pub conj-val : (z : Complex) → valC (conjugate z) ≡ conjG (valC z)
 conj-val z = ap (λ (s : Signed). record { re = val binary32 (z .re); im = s }) (neg-val binary32 (z .im))
@@ -245,9 +233,6 @@ same-61 z = (omega arith, omega arith)
 
 same-half : (z : Gauss) → Same (scaleG (2 ^ 36) (scaleG (2 * 2 ^ 24) z)) (scaleG (2 * 2 ^ 60) z)
 same-half z = (omega arith, omega arith)
-
-pub same-60 : (z : Gauss) → Same (scaleG (2 ^ 36) (scaleG (2 ^ 24) z)) (scaleG (2 ^ 60) z)
-same-60 z = (omega arith, omega arith)
 
 same-sum : (k : ℕ) (z t : Gauss) → Same (scaleG k (plusG z t)) (plusG (scaleG k z) (scaleG k t))
 same-sum k z t = (omega arith, omega arith)

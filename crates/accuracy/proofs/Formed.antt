@@ -2,17 +2,14 @@
 -- together. Assumes nothing.
 use Rattle.sequences.proofs.Basics.{_≡_, ap, ap₂, _∙_, ℕ, _+_, _*_, _≤_, le-refl, le-trans, le-of-eq, mul-le-mul-left, arith}
 use Rattle.accuracy.specs.Gauss.{Gauss, plusG, minusG, timesG, scaleG, Disc, Off}
-use Rattle.accuracy.specs.Value.{Signed, NearZ, negZ, plusZ, minusZ, absZ}
+use Rattle.accuracy.specs.Value.{Signed, NearZ, plusZ, minusZ, absZ}
 use Rattle.accuracy.proofs.Circle.{quarter}
 use Rattle.accuracy.proofs.Conjugate.{conjG}
-use Rattle.accuracy.proofs.Plane.{abs-scale, Same, same-times, norm, norm-times, norm-both, disc-same}
+use Rattle.accuracy.proofs.Plane.{abs-scale, Same, same-times, norm, norm-times, norm-both, disc-same, abs-flip}
 
 -- a and its mirror image c, with the turn w
 abbrev pub formed : (G : ℕ) (a c w : Gauss) → Gauss
 formed G a c w = plusG (scaleG G (plusG a (conjG c))) (timesG (quarter (minusG a (conjG c))) w)
-
-abs-flip : (x : Signed) → absZ (negZ x) ≡ absZ x
-abs-flip x = omega arith
 
 norm-conj : (z : Gauss) → norm (conjG z) ≡ norm z
 norm-conj z = ap (λ (n : ℕ). absZ (z .re) * absZ (z .re) + n * n) (abs-flip (z .im))

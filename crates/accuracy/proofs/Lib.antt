@@ -2,7 +2,6 @@
 pub mod Floats
 pub mod Rounds
 pub mod Dft
-pub mod Fractions
 pub mod Rounding
 pub mod Values
 pub mod Plane

@@ -10,17 +10,16 @@ use Rattle.accuracy.specs.Gauss.{Gauss, plusG, minusG, timesG, scaleG, D
 use Rattle.accuracy.specs.House.{house}
 use Rattle.accuracy.specs.Spectrum.{realG, folded, binTaken}
 use Rattle.accuracy.specs.Value.{Signed, zeroZ, negZ, plusZ, minusZ, absZ, val, Held}
-use Rattle.accuracy.proofs.Circle.{quarter, spin}
+use Rattle.accuracy.proofs.Circle.{quarter, spin, quarter-disc}
 use Rattle.accuracy.proofs.Complexes.{plus-off, part-re, part-im}
 use Rattle.accuracy.proofs.Conjugate.{conjG}
-use Rattle.accuracy.proofs.Ends.{conj-disc, quarter-disc, negC, negG, neg-valC, neg-both-disc, neg-around, same-60, same-60-sum, ifft-near-off}
-use Rattle.accuracy.proofs.Ends.{ifft-far-off, conj-val}
+use Rattle.accuracy.proofs.Ends.{conj-disc, negC, negG, neg-valC, neg-both-disc, neg-around, same-60-sum, ifft-near-off, ifft-far-off, conj-val}
 use Rattle.accuracy.proofs.Floats.{plusC}
 use Rattle.accuracy.proofs.Formed.{formed, formed-disc}
 use Rattle.accuracy.proofs.House.{turns, house-whole, house-mirror}
 use Rattle.accuracy.proofs.Mirror.{prepared}
 use Rattle.accuracy.proofs.Plane.{real-both, Same, off-same, off-eq, off-more, off-trans, off-plus, off-scale, disc-near, disc-unscale, disc-more}
-use Rattle.accuracy.proofs.Plane.{disc-scale, disc-plus, disc-same}
+use Rattle.accuracy.proofs.Plane.{same-60, disc-scale, disc-plus, disc-same}
 use Rattle.accuracy.proofs.Rounds.{Around}
 use Rattle.accuracy.proofs.Turning.{same-self}
 use Rattle.accuracy.proofs.Turns.{Close}

@@ -22,7 +22,7 @@ use Rattle.accuracy.specs.House.{exactAt, house}
 use Rattle.accuracy.specs.Value.{Near, Signed, signed, scale, absZ, NearZ, val, Held}
 use Rattle.accuracy.proofs.Circle.{below, spin}
 use Rattle.accuracy.proofs.Complexes.{part-re, part-im, near-abs}
-use Rattle.accuracy.proofs.Fractions.{mul-at}
+use Rattle.finite.proofs.Fractions.{mul-at}
 use Rattle.accuracy.proofs.House.{turns, house-whole}
 use Rattle.accuracy.proofs.Plane.{triangle, disc-more, off-same}
 use Rattle.accuracy.proofs.Rounding.{grid-near}
@@ -198,7 +198,7 @@ pair P f (suc (suc (suc q))) c s u v = (f false s u, f false c v)
 scaled : (a b U E : ℕ) → a * a + b * b ≤ E * E → a * U * (a * U) + b * U * (b * U) ≤ U * E * (U * E)
 scaled a b U E h = omega (arith, mul-le-mul-right (U * U) h)
 
-corner : (ε : ℕ) → ε * ε + ε * ε ≤ 2 * ε * (2 * ε)
+pub corner : (ε : ℕ) → ε * ε + ε * ε ≤ 2 * ε * (2 * ε)
 corner ε = omega arith
 
 both-close : (w : Gauss) (t : Complex) → Disc (2 ^ 60 + 1) w → Rounded (t .re) (w .re) → Rounded (t .im) (w .im) → Close w t

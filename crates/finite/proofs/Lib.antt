@@ -8,6 +8,7 @@ pub mod Ends
 pub mod Transforms
 pub mod Fillings
 pub mod Calls
+pub mod Fractions
 pub mod Whole
 pub mod Exact
 pub mod Accepted

@@ -1,56 +1,14 @@
 -- Sums and differences of floats that are whole numbers: exact up to 2 ^ 24, and equal by equations of naturals.
 -- Assumes nothing.
-use Rattle.sequences.proofs.Basics.{_≡_, refl, sym, ap, ap₂, _∙_, subst, ℕ, zero, suc, _+_, _-_, _*_, _^_, _≤_, _<_, mul-one, mul-pos, mul-comm}
-use Rattle.sequences.proofs.Basics.{mul-le-mul-right, mul-lt-mul-of-pos-right, lt-of-not-le, zero-lt-suc, mul-sub, arith, decLe, Bool, true, false, not, cond}
-use Rattle.sequences.proofs.Basics.{_&&_, dite, T, ltb, leb, ltb→lt, leb→le, lt-ltb, le-ltb}
+use Rattle.sequences.proofs.Basics.{_≡_, refl, sym, ap, ap₂, _∙_, subst, ℕ, zero, suc, _+_, _-_, _*_, _^_, _≤_, mul-one, lt-of-not-le, zero-lt-suc, arith}
+use Rattle.sequences.proofs.Basics.{decLe, Bool, true, false, not, cond, _&&_, dite, T, ltb, leb, ltb→lt, leb→le, lt-ltb, le-ltb}
 use lib.IntN.{ℤ, pos, negsuc, negℤ, _+ℤ_, _-ℤ_, natAbs, subℕ, +ℤ-assoc, +ℤ-comm, +ℤ-idl, +ℤ-idr, +ℤ-negℤ-cancel, negℤ-+ℤ, negℤ-negℤ, _*ℤ_, zero-*ℤ, sucℤ-*ℤ}
-use lib.Ieee.{Float, nan, inf, fin, binary32, up, down, round, sum, add, sub, neg, ofBits}
-use lib.Ieee.Fits.{down-pos, and-l, and-r}
+use lib.Ieee.{Float, nan, inf, fin, binary32, up, round, sum, add, sub, neg, ofBits}
+use lib.Ieee.Fits.{and-l, and-r}
 use lib.Ieee.Exact.{HasValue}
-use lib.Ieee.Scale.{round-same}
 use lib.Ieee.Back.{round-whole}
+use Rattle.finite.proofs.Fractions.{add-at}
 use Rattle.finite.specs.Whole.{signed, IsWhole, Small}
-
--- ---- the sum of two fractions over z is that of equal fractions over c
-
-ltb-scale : (a b c : ℕ) → 0 < c → ltb (a * c) (b * c) ≡ ltb a b
-ltb-scale a b c h = dite (decLe b a) (λ (g : b ≤ a). le-ltb (a * c) (b * c) (mul-le-mul-right c g) ∙ sym (le-ltb a b g)) (λ (g : b ≤ a → ⊥).
-    let l : a < b = lt-of-not-le g in
-    lt-ltb (a * c) (b * c) (mul-lt-mul-of-pos-right l h) ∙ sym (lt-ltb a b l))
-
-sub-mul : (a b c : ℕ) → (a - b) * c ≡ a * c - b * c
-sub-mul a b c = rw (mul-comm a c, mul-comm b c, mul-comm (a - b) c) (mul-sub c a b)
-
-module _ (x y z a b c : ℕ) (Z : 0 < z) (C : 0 < c) (p : x * c ≡ a * z) (q : y * c ≡ b * z) where
-  ltb-same : ltb x y ≡ ltb a b
-  ltb-same = sym (ltb-scale x y c C) ∙ ap₂ ltb p q ∙ ltb-scale a b z Z
-
-  sub-same : (x - y) * c ≡ (a - b) * z
-  sub-same = sub-mul x y c ∙ ap₂ (λ (n k : ℕ). n - k) p q ∙ sym (sub-mul a b z)
-
-sum-same : (s t : Bool) (x y z a b c : ℕ) → 0 < z → 0 < c → x * c ≡ a * z → y * c ≡ b * z → sum binary32 s x t y z ≡ sum binary32 s a t b c
-unfolding sum
-sum-same s t x y z a b c Z C p q =
-    let r : (u : Bool) (n k : ℕ) → n * c ≡ k * z → round binary32 u n z ≡ round binary32 u k c = λ u n k e. round-same binary32 u n z k c Z C e in
-    let both : (x + y) * c ≡ (a + b) * z = omega (arith, p, q) in
-    rw (
-      ltb-same x y z a b c Z C p q,
-      ltb-same y x z b a c Z C q p,
-      r s (x + y) (a + b) both,
-      r t (y - x) (b - a) (sub-same y x z b a c Z C q p),
-      r (s && ltb b a) (x - y) (a - b) (sub-same x y z a b c Z C p q),
-    )
-
--- ---- the sum of floats that are ±a and ±b
-
--- n / d is A, and so it is with a factor D
-over : (n d D A : ℕ) → n ≡ A * d → n * D * 1 ≡ A * (d * D)
-over n d D A h = omega (arith, ap (λ (k : ℕ). k * D) h)
-
-add-at : (s t : Bool) (m n a b : ℕ) (e d : ℤ) → m * up e ≡ a * down e → n * up d ≡ b * down d → add binary32 (fin s m e) (fin t n d) ≡ sum binary32 s a t b 1
-unfolding add
-add-at s t m n a b e d v w = sum-same s t (m * up e * down d) (n * up d * down e) (down e * down d) a b 1 (mul-pos (down-pos e) (down-pos d)) (zero-lt-suc 0)
-    (over (m * up e) (down e) (down d) a v) (over (n * up d) (down d) (down e) b w ∙ ap (λ (k : ℕ). b * k) (mul-comm (down d) (down e)))
 
 -- ---- signs and sizes
 
@@ -124,7 +82,8 @@ add-whole (fin s m e) nan a b v w l = absurd w
 add-whole (fin s m e) (inf t) a b v w l = absurd w
 add-whole (fin s m e) (fin t n d) a b v w l =
     let same : signed s (natAbs a) +ℤ signed t (natAbs b) ≡ a +ℤ b = ap₂ _+ℤ_ (v .1) (w .1) in
-    rw (add-at s t m n (natAbs a) (natAbs b) e d (v .0) (w .0))
+    let value : (k : ℕ) {n d : ℕ} → n ≡ k * d → n * 1 ≡ k * d = λ k e. mul-one _ ∙ e in
+    rw (add-at binary32 (fin s m e) (fin t n d) s t (natAbs a) (natAbs b) 1 (zero-lt-suc 0) (refl, value _ (v .0)) (refl, value _ (w .0)))
     (subst (IsWhole (sum binary32 s (natAbs a) t (natAbs b) 1)) same (sum-to s t (natAbs a) (natAbs b) (rw same l)))
 
 pub neg-whole : (x : Float) (a : ℤ) → IsWhole x a → IsWhole (neg x) (negℤ a)
