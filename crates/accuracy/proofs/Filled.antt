@@ -12,7 +12,7 @@ use Rattle.turn.specs.Calls.{part}
 use Rattle.turn.specs.Turns.{indexOf}
 use Rattle.turn.proofs.Index.{housed-parts}
 use Rattle.twiddle.specs.Calls.{Fills}
-use Rattle.twiddle.specs.declared.inner.ends.Direction.{Direction}
+use Rattle.end_twiddles.specs.declared.inner.ends.Direction.{Direction}
 use Rattle.twiddle.proofs.Verdicts.{taken}
 use Rattle.transform.specs.Transforms.{Slices}
 use Rattle.transform.proofs.Transforms.{plan-some, plan-twice}

@@ -14,7 +14,7 @@ use Rattle.schedule.proofs.Plans.{use-length, use-product}
 use Rattle.turn.specs.Calls.{part}
 use Rattle.turn.specs.Turns.{turnOf, wordsOf}
 use Rattle.twiddle.specs.Calls.{Fills}
-use Rattle.twiddle.specs.declared.inner.ends.Direction.the-variants.{Forward}
+use Rattle.end_twiddles.specs.declared.inner.ends.Direction.the-variants.{Forward}
 use Rattle.twiddle.proofs.Theorems.{filled-end}
 use Rattle.floats.specs.Complexes.{cx, blank, cell, paired as pairsOf, flat}
 use Rattle.floats.specs.declared.complex.Complex.{Complex}

@@ -18,7 +18,7 @@ use Rattle.schedule.proofs.Plans.{use-length, use-product}
 use Rattle.turn.specs.Calls.{part}
 use Rattle.turn.specs.Turns.{turnOf, wordsOf}
 use Rattle.twiddle.specs.Calls.{Fills}
-use Rattle.twiddle.specs.declared.inner.ends.Direction.the-variants.{Inverse}
+use Rattle.end_twiddles.specs.declared.inner.ends.Direction.the-variants.{Inverse}
 use Rattle.twiddle.proofs.Theorems.{filled-end}
 use Rattle.floats.specs.Complexes.{cx, blank, conjugate, cell, flat}
 use Rattle.floats.specs.declared.complex.Complex.{Complex}

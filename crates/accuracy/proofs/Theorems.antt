@@ -19,7 +19,7 @@ use Rattle.plan.proofs.Theorems.{record-depends-on-n}
 use Rattle.schedule.specs.Plans.{inUse}
 use Rattle.schedule.proofs.Plans.{use-length, use-radix-few}
 use Rattle.twiddle.specs.Calls.{Fills}
-use Rattle.twiddle.specs.declared.inner.ends.Direction.the-variants.{Forward, Inverse}
+use Rattle.end_twiddles.specs.declared.inner.ends.Direction.the-variants.{Forward, Inverse}
 use Rattle.twiddle.proofs.Verdicts.{taken}
 use Rattle.floats.specs.Complexes.{cell}
 use Rattle.spectrum.specs.Calls.{Forwards, Inverts}

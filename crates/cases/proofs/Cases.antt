@@ -19,7 +19,7 @@ use Rattle.schedule.specs.Buffers.{heldIn, alternated, driven}
 use Rattle.schedule.specs.Plans.{inUse}
 use Rattle.schedule.specs.Stage.{twiddleTurn, kernelTurn, iteration, place, tabulate, twiddledIn, read, total, plain, output, stageBy, stage, run}
 use Rattle.turn.specs.Turns as Turns
-use Rattle.twiddle.specs.Calls.{isWidth}
+use Rattle.packing.specs.Places.{isWidth}
 use Rattle.floats.specs.Complexes.{paired, flat}
 use Rattle.floats.specs.Scan.{fits, firstUnfit}
 use Rattle.floats.specs.declared.complex.Complex.{Complex}

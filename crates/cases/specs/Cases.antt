@@ -20,7 +20,7 @@ use Rattle.merging.specs.declared.inner.merging.Rule.the-variants.{A, B, C}
 use Rattle.schedule.specs.Buffers.{Two, heldIn}
 use Rattle.schedule.specs.Plans.{inUse}
 use Rattle.schedule.specs.Stage.{run, plain}
-use Rattle.twiddle.specs.Calls.{isWidth}
+use Rattle.packing.specs.Places.{isWidth}
 use Rattle.floats.specs.Complexes.{cx, flat}
 use Rattle.floats.specs.declared.complex.Complex.{Complex}
 use Rattle.spectrum.specs.Calls.{Forwards, Inverts}

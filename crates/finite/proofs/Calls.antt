@@ -9,8 +9,8 @@ use Rattle.counts.specs.Counts.{radix}
 use Rattle.plan.specs.declared.Record.{Record}
 use Rattle.schedule.specs.Plans.{inUse}
 use Rattle.schedule.specs.Stage.{stage, plain}
-use Rattle.twiddle.specs.Places.{place}
-use Rattle.twiddle.proofs.Verdicts.{width-bounds}
+use Rattle.packing.specs.Places.{place}
+use Rattle.packing.proofs.Widths.{width-bounds}
 use Rattle.floats.specs.Complexes.{cell, paired}
 use Rattle.floats.specs.Scan.{firstUnfit}
 use Rattle.floats.specs.declared.complex.Complex.{Complex}

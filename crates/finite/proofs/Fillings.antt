@@ -7,10 +7,11 @@ use Rattle.turn.specs.Calls.{part}
 use Rattle.turn.specs.Turns.{turnOf, wordsOf}
 use Rattle.turn.proofs.Small.{words-small}
 use Rattle.twiddle.specs.Calls.{filled}
-use Rattle.twiddle.specs.Twiddles.{twiddle, stageWords, stagesWords, 0·5, directed, endTwiddle, endWords}
-use Rattle.twiddle.specs.Words.{pairs, packed}
-use Rattle.twiddle.specs.declared.inner.ends.Direction.{Direction}
-use Rattle.twiddle.specs.declared.inner.ends.Direction.the-variants.{Forward, Inverse}
+use Rattle.packing.specs.Twiddles.{twiddle, stageWords, stagesWords}
+use Rattle.end_twiddles.specs.Ends.{0·5, directed, endTwiddle, endWords}
+use Rattle.packing.specs.Words.{pairs, packed}
+use Rattle.end_twiddles.specs.declared.inner.ends.Direction.{Direction}
+use Rattle.end_twiddles.specs.declared.inner.ends.Direction.the-variants.{Forward, Inverse}
 use Rattle.finite.specs.Sizes.{AtMost, Words}
 use Rattle.finite.proofs.Sizes.{Room, mul-most, neg-most}
 use Rattle.finite.proofs.Stages.{small-most}

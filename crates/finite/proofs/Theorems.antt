@@ -10,7 +10,7 @@ use Rattle.refusal.specs.declared.Verdict.the-variants.{Accepted}
 use Rattle.refusal.proofs.Rows.{settled}
 use Rattle.plan.specs.declared.Record.{Record}
 use Rattle.twiddle.specs.Calls.{Fills}
-use Rattle.twiddle.specs.declared.inner.ends.Direction.{Direction}
+use Rattle.end_twiddles.specs.declared.inner.ends.Direction.{Direction}
 use Rattle.twiddle.proofs.Unique.{Fills-one}
 use Rattle.stage.specs.Calls.{Stages}
 use Rattle.stage.proofs.Unique.{Stages-one}

@@ -15,8 +15,8 @@ use Rattle.schedule.specs.Plans.{inUse}
 use Rattle.schedule.proofs.Cells.{length-tabulate, getD-tabulate}
 use Rattle.schedule.proofs.Buffers.{driven-none}
 use Rattle.schedule.proofs.Plans.{use-length, use-product, use-radix}
-use Rattle.twiddle.specs.Places.{place}
-use Rattle.twiddle.proofs.Verdicts.{width-bounds}
+use Rattle.packing.specs.Places.{place}
+use Rattle.packing.proofs.Widths.{width-bounds}
 use Rattle.floats.specs.Complexes.{cell}
 use Rattle.kernel.proofs.Widths.{place-lt}
 use Rattle.stage.specs.Runs.{stageIn, runOf, lentTo}

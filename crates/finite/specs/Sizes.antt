@@ -9,7 +9,7 @@ use lib.ListN.{length, getD}
 use Rattle.counts.specs.Counts.{stageTwiddles, endCount}
 use Rattle.plan.specs.Record.{isPlanned}
 use Rattle.plan.specs.declared.Record.{Record}
-use Rattle.twiddle.specs.Calls.{isWidth}
+use Rattle.packing.specs.Places.{isWidth}
 use Rattle.floats.specs.declared.complex.Complex.{Complex}
 use Rattle.spectrum.specs.Calls.{binWords}
 use Rattle.transform.specs.Transforms.{Slices, dataOf, padOf}

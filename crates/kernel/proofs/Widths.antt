@@ -4,10 +4,9 @@ use Rattle.sequences.proofs.Basics.{_≡_, refl, sym, ap, _∙_, ℕ, _+_, _-_,
 use Rattle.sequences.proofs.Basics.{ℕ-discrete, Bool, true, false, true≢false, _⊎_, ⊎-elim, List, eqb, length, take, drop, length-drop, take-all, digits-lt}
 use Rattle.sequences.proofs.Basics.{eqb-false}
 use lib.Ieee.{Float}
-use Rattle.twiddle.specs.Calls.{isWidth}
-use Rattle.twiddle.specs.Places.{place}
-use Rattle.twiddle.proofs.Places.{lane-place, lone-place, stands}
-use Rattle.twiddle.proofs.Verdicts.{no-width}
+use Rattle.packing.specs.Places.{isWidth, place}
+use Rattle.packing.proofs.Places.{lane-place, lone-place, stands}
+use Rattle.packing.proofs.Widths.{no-width}
 use Rattle.floats.specs.declared.complex.Complex.{Complex}
 use Rattle.floats.specs.Complexes.{cell}
 use Rattle.floats.proofs.Flat.{cell-drop}

@@ -7,7 +7,7 @@ use Rattle.plan.specs.declared.Record.{Record}
 use Rattle.schedule.specs.Plans.{inUse}
 use Rattle.schedule.specs.Stage.{Part, Arith, stage, plain}
 use Rattle.turn.specs.Turns.{turnOf, wordsOf}
-use Rattle.twiddle.specs.Places.{place}
+use Rattle.packing.specs.Places.{place}
 use Rattle.floats.specs.declared.complex.Complex.{Complex}
 use Rattle.floats.specs.Complexes.{cx, blank, plus, times, turnedBy, cell, paired, flat}
 

@@ -11,7 +11,7 @@ use Rattle.plan.specs.Record.{isPlanned}
 use Rattle.plan.specs.declared.Record.{Record}
 use Rattle.schedule.specs.Parts as Loop
 use Rattle.schedule.specs.Stage.{Arith, plain}
-use Rattle.twiddle.specs.Calls.{isWidth}
+use Rattle.packing.specs.Places.{isWidth}
 use Rattle.floats.specs.declared.complex.Complex.{Complex}
 use Rattle.floats.specs.Complexes.{cx, blank, times, cell}
 use Rattle.kernel.specs.Floats.{floats}

@@ -12,7 +12,7 @@ use Rattle.schedule.specs.Buffers.{Two}
 use Rattle.turn.specs.Calls.{part, turnVerdict}
 use Rattle.turn.specs.Turns.{+0, turnOf, wordsOf}
 use Rattle.twiddle.specs.Calls.{Slices, fillVerdict, filled}
-use Rattle.twiddle.specs.declared.inner.ends.Direction.the-variants.{Forward, Inverse}
+use Rattle.end_twiddles.specs.declared.inner.ends.Direction.the-variants.{Forward, Inverse}
 use Rattle.kernel.specs.Floats.{stageOf as stageWords}
 use Rattle.stage.specs.Calls as Floats
 use Rattle.spectrum.specs.Calls.{forwardVerdict, inverseVerdict}

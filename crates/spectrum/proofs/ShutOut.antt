@@ -12,7 +12,7 @@ use Rattle.plan.specs.Record.{isPlanned, inOrder, sized}
 use Rattle.plan.specs.declared.Record.{Record}
 use Rattle.schedule.specs.Buffers.{alternated, driven}
 use Rattle.schedule.specs.Stage.{tabulate}
-use Rattle.twiddle.specs.Calls.{isWidth}
+use Rattle.packing.specs.Places.{isWidth}
 use Rattle.floats.specs.Complexes.{flat}
 use Rattle.floats.specs.Scan.{fits, firstUnfit}
 use Rattle.ends.specs.Ends.{+0, endCell, ended}

@@ -13,8 +13,8 @@ use Rattle.plan.specs.Record.{isPlanned}
 use Rattle.plan.specs.declared.Record.{Record}
 use Rattle.schedule.specs.Buffers.{Two, heldIn}
 use Rattle.schedule.proofs.Buffers.{driven-same}
-use Rattle.twiddle.specs.Calls.{isWidth}
-use Rattle.twiddle.proofs.Verdicts.{width-bounds}
+use Rattle.packing.specs.Places.{isWidth}
+use Rattle.packing.proofs.Widths.{width-bounds}
 use Rattle.floats.specs.Complexes.{paired, flat}
 use Rattle.floats.specs.Scan.{fits, firstUnfit}
 use Rattle.sequences.proofs.First.{joined-none}

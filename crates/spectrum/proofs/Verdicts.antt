@@ -8,7 +8,7 @@ use Rattle.refusal.proofs.Rows.{accepted}
 use Rattle.counts.specs.Counts.{stageTwiddles, endCount}
 use Rattle.plan.specs.Record.{isPlanned}
 use Rattle.plan.specs.declared.Record.{Record}
-use Rattle.twiddle.specs.Calls.{isWidth}
+use Rattle.packing.specs.Places.{isWidth}
 use Rattle.floats.specs.Scan.{fits, firstUnfit}
 use Rattle.sequences.proofs.First.{joined-first, joined-second}
 use Rattle.spectrum.specs.Calls.{binWords, lentVerdict}

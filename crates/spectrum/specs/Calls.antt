@@ -11,7 +11,7 @@ use Rattle.refusal.specs.declared.Verdict.{Verdict}
 use Rattle.counts.specs.Counts.{stageTwiddles, endCount}
 use Rattle.plan.specs.Record.{isPlanned}
 use Rattle.plan.specs.declared.Record.{Record}
-use Rattle.twiddle.specs.Calls.{isWidth}
+use Rattle.packing.specs.Places.{isWidth}
 use Rattle.floats.specs.Scan.{firstUnfit}
 use Rattle.transform.specs.Transforms.{Slices, forwardOf, inverseOf}
 

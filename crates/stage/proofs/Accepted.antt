@@ -9,10 +9,9 @@ use Rattle.plan.specs.Record.{isPlanned}
 use Rattle.plan.specs.declared.Record.{Record}
 use Rattle.counts.proofs.Counts.{count-first}
 use Rattle.schedule.specs.Plans.{inUse}
-use Rattle.twiddle.specs.Calls.{isWidth}
-use Rattle.twiddle.specs.Places.{place, iterationAt, numberAt}
+use Rattle.packing.specs.Places.{isWidth, place, iterationAt, numberAt}
 use Rattle.twiddle.proofs.Theorems.{each-stands, each-filled}
-use Rattle.twiddle.proofs.Verdicts.{width-bounds}
+use Rattle.packing.proofs.Widths.{width-bounds}
 use Rattle.floats.specs.Complexes.{cell}
 use Rattle.floats.specs.Scan.{fits, firstUnfit}
 use Rattle.floats.specs.declared.complex.Complex.{Complex}

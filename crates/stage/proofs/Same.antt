@@ -14,7 +14,7 @@ use Rattle.schedule.proofs.Buffers.{sourceBy, source-run, held}
 use Rattle.schedule.proofs.Cells.{iteration-lt, tabulate-same}
 use Rattle.schedule.proofs.Sums.{total-same, plain-same}
 use Rattle.schedule.proofs.Plans.{use-parts, use-radix, use-radix-some, use-stride-some}
-use Rattle.twiddle.specs.Places.{place}
+use Rattle.packing.specs.Places.{place}
 use Rattle.floats.specs.declared.complex.Complex.{Complex}
 use Rattle.floats.specs.Complexes.{cx, times, cell, paired, flat}
 use Rattle.floats.proofs.Flat.{paired-flat, flat-paired}

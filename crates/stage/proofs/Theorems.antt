@@ -13,10 +13,12 @@ use Rattle.plan.specs.declared.Record.{Record}
 use Rattle.schedule.specs.Buffers.{heldIn}
 use Rattle.schedule.specs.Plans.{inUse}
 use Rattle.schedule.specs.Stage.{stage, run, plain}
-use Rattle.twiddle.specs.Calls.{isWidth, Slices, Fills}
-use Rattle.twiddle.specs.declared.inner.ends.Direction.{Direction}
+use Rattle.packing.specs.Places.{isWidth}
+use Rattle.twiddle.specs.Calls.{Slices, Fills}
+use Rattle.end_twiddles.specs.declared.inner.ends.Direction.{Direction}
 use Rattle.twiddle.proofs.Theorems.{filled-twiddle}
-use Rattle.twiddle.proofs.Verdicts.{Taken, taken, width-bounds}
+use Rattle.packing.proofs.Widths.{width-bounds}
+use Rattle.twiddle.proofs.Verdicts.{Taken, taken}
 use Rattle.floats.specs.Complexes.{cx, paired, flat}
 use Rattle.kernel.specs.Floats.{houseFloats, lentAt, stageOf}
 use Rattle.kernel.specs.Parts.{Workable}

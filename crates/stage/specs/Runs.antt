@@ -11,8 +11,7 @@ use Rattle.plan.specs.declared.Record.{Record}
 use Rattle.schedule.specs.Buffers.{Two, driven}
 use Rattle.schedule.specs.Plans.{inUse}
 use Rattle.schedule.specs.Stage.{twiddleTurn}
-use Rattle.twiddle.specs.Calls.{isWidth}
-use Rattle.twiddle.specs.Places.{place}
+use Rattle.packing.specs.Places.{isWidth, place}
 use Rattle.floats.specs.declared.complex.Complex.{Complex}
 use Rattle.floats.specs.Complexes.{cell}
 use Rattle.kernel.specs.Floats.{wordOf, stageOf}

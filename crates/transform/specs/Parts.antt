@@ -5,7 +5,7 @@ use mathlib.Core.Bool.{true}
 use Rattle.counts.specs.Counts.{stageTwiddles, endCount}
 use Rattle.plan.specs.Record.{isPlanned}
 use Rattle.plan.specs.declared.Record.{Record}
-use Rattle.twiddle.specs.Calls.{isWidth}
+use Rattle.packing.specs.Places.{isWidth}
 
 -- what the stages ask of a plan, a width, a scratch, another buffer and the twiddles of all stages, of so many words
 pub record Staged (p : Record) (W scratch beside stage : ℕ) : Type 0 where

@@ -1,13 +1,4 @@
 -- The laws that the proofs share, by subject.
-pub mod Places
-pub mod Lanes
-pub mod Words
-pub mod Fill
-pub mod Circle
 pub mod Verdicts
-pub mod Ends
-pub mod Stage
-pub mod Stages
-pub mod Standing
 pub mod Unique
 pub mod Theorems

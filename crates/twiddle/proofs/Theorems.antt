@@ -15,16 +15,18 @@ use Rattle.turn.specs.Calls.{part}
 use Rattle.turn.specs.Turns.{bare, housed, turnOf, wordsOf}
 use Rattle.turn.proofs.Index.{index-below}
 use Rattle.turn.proofs.Theorems.{other-turns}
+use Rattle.packing.specs.Places.{place, iterationAt, numberAt, Stands, Found}
+use Rattle.packing.specs.Twiddles.{twiddle}
+use Rattle.packing.specs.Words.{At}
+use Rattle.packing.proofs.Places.{stands, found}
+use Rattle.packing.proofs.Standing.{twiddle-at, use-start}
+use Rattle.packing.proofs.Widths.{width-bounds}
+use Rattle.packing.proofs.Words.{at-same, pairs-at}
+use Rattle.end_twiddles.specs.Ends.{directed, endTwiddle, endWords}
+use Rattle.end_twiddles.specs.declared.inner.ends.Direction.{Direction}
+use Rattle.end_twiddles.proofs.Ends.{end-inside, end-quarter}
 use Rattle.twiddle.specs.Calls.{Slices, filled, Fills}
-use Rattle.twiddle.specs.Places.{place, iterationAt, numberAt, Stands, Found}
-use Rattle.twiddle.specs.Twiddles.{directed, twiddle, endTwiddle, endWords}
-use Rattle.twiddle.specs.Words.{At}
-use Rattle.twiddle.specs.declared.inner.ends.Direction.{Direction}
-use Rattle.twiddle.proofs.Ends.{end-inside, end-quarter}
-use Rattle.twiddle.proofs.Places.{stands, found}
-use Rattle.twiddle.proofs.Standing.{twiddle-at, use-start}
-use Rattle.twiddle.proofs.Verdicts.{Taken, taken, width-bounds}
-use Rattle.twiddle.proofs.Words.{at-same, pairs-at}
+use Rattle.twiddle.proofs.Verdicts.{Taken, taken}
 
 -- ---- places: M iterations of radix r, any width
 

@@ -1,5 +1,2 @@
 -- The definitions that contracts cite.
-pub mod Places
-pub mod Words
-pub mod Twiddles
 pub mod Calls

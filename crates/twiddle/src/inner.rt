@@ -1,7 +1,3 @@
-// What other crates call under a proof, and the parts of a filling.
+// What a filling refuses, and what it does.
 pub mod check;
-pub mod ends;
 pub mod fill;
-pub mod places;
-pub mod stages;
-pub mod words;

@@ -1,11 +1,11 @@
 // Twiddles filled from the house table: those of the stages, packed for a width, and those of the ends.
 pub mod inner;
 
-use inner::ends::Direction;
+use end_twiddles::inner::ends::Direction;
 use inner::fill::fill;
 use plan::Record;
 use refusal::Verdict;
-ghost use Rattle.twiddle.specs.declared.inner.ends.Direction.the-variants.{Forward, Inverse};
+ghost use Rattle.end_twiddles.specs.declared.inner.ends.Direction.the-variants.{Forward, Inverse};
 ghost use Rattle.twiddle.specs.Calls.{Fills};
 
 // The twiddles of a plan for the forward transform, packed for a width.

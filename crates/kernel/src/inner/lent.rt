@@ -6,7 +6,7 @@ ghost use mathlib.Core.Bool.{true, false};
 ghost use mathlib.Core.Logic.{_⊎_};
 ghost use Prim.Native.Nat.{ℕ, _+_, _-_, _*_, _<_, _≤_};
 ghost use lib.ListN.{length, drop};
-ghost use Rattle.twiddle.specs.Calls.{isWidth};
+ghost use Rattle.packing.specs.Places.{isWidth};
 ghost use Rattle.floats.specs.Complexes.{cell};
 ghost use Rattle.kernel.specs.Floats.{lentAt};
 ghost use Rattle.kernel.specs.Parts.{Lending, Fetched, Wrote};

@@ -16,7 +16,7 @@ ghost use mathlib.Core.Path.{_≡_};
 ghost use mathlib.Core.Bool.{true, false};
 ghost use Prim.Native.Nat.{ℕ, _-_, _*_, _/_, _%_, _<_, _≤_};
 ghost use lib.ListN.{length};
-ghost use Rattle.twiddle.specs.Calls.{isWidth};
+ghost use Rattle.packing.specs.Places.{isWidth};
 ghost use Rattle.floats.specs.declared.complex.Complex.{Complex};
 ghost use Rattle.kernel.specs.Floats.{lentAt, stageOf};
 ghost use Rattle.kernel.specs.Parts.{outputOf, Sized, Lending, Done, Blocks, Batch, Even, Placed, Workable};

@@ -2,11 +2,11 @@
 use counts::inner::stages::end_count;
 use counts::inner::stages::twiddle_start;
 use floats::inner::scan::first_unfit;
+use packing::inner::places::is_width;
 use plan::Record;
 use plan::inner::records::is_planned;
 use refusal::Refusal;
 use refusal::Verdict;
-use twiddle::inner::check::is_width;
 ghost use mathlib.Core.Path.{_≡_};
 ghost use Prim.Native.Nat.{ℕ, _+_, _*_};
 ghost use lib.Dec.{eqb};

@@ -1,11 +1,11 @@
 // Which plans, stages, widths, lengths and numbers are taken.
 use counts::inner::stages::twiddle_count;
 use floats::inner::scan::first_unfit;
+use packing::inner::places::is_width;
 use plan::Record;
 use plan::inner::records::is_planned;
 use refusal::Refusal;
 use refusal::Verdict;
-use twiddle::inner::check::is_width;
 ghost use mathlib.Core.Path.{_≡_};
 ghost use Rattle.stage.specs.Calls.{sizeVerdict, numberVerdict, stageVerdict};
 

@@ -1,25 +1,14 @@
 // Which plans, widths and lengths are taken.
 use counts::inner::stages::end_count;
 use counts::inner::stages::twiddle_start;
+use packing::inner::places::is_width;
 use plan::Record;
 use plan::inner::records::is_planned;
 use refusal::Refusal;
 use refusal::Verdict;
 use turn::inner::lookup::is_housed;
 ghost use mathlib.Core.Path.{_≡_};
-ghost use Rattle.twiddle.specs.Calls.{isWidth, fillVerdict};
-
-// Whether twiddles are packed for a width.
-pub fn is_width(width: usize) -> bool
-    ensures { λ r. ⌜ r ≡ isWidth width ⌝ }
-{
-    match width {
-        1 => true,
-        2 => true,
-        4 => true,
-        _ => false,
-    }
-}
+ghost use Rattle.twiddle.specs.Calls.{fillVerdict};
 
 // Refusals 5, 6, 7 and 8, in this order, of slices of so many words.
 pub fn lent(plan: Record, width: usize, stage: usize, end: usize) -> Verdict

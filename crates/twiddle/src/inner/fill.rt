@@ -1,8 +1,8 @@
 // Filling, in either direction.
 use crate::inner::check::lent;
-use crate::inner::ends::Direction;
-use crate::inner::ends::ends;
-use crate::inner::stages::stages;
+use end_twiddles::inner::ends::Direction;
+use end_twiddles::inner::ends::ends;
+use packing::inner::stages::stages;
 use plan::Record;
 use refusal::Verdict;
 use turn::inner::table::cosines;

@@ -1,0 +1,2 @@
+// The filling of the ends.
+pub mod ends;
