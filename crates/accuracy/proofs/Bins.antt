@@ -2,9 +2,10 @@
 use Rattle.sequences.proofs.Basics.{_≡_, refl, sym, ap, _∙_, ℕ, _+_, _-_, _*_, _^_, _≤_, _<_, zero-le, le-refl, le-trans, le-of-eq, le-of-lt, mul-le-mul-left}
 use Rattle.sequences.proofs.Basics.{arith, lit≤, lit<, pow-pos}
 use lib.Ieee.{Float, binary32, ofBits, add, sub}
+use Rattle.turn.specs.Turns.{+0}
 use Rattle.floats.specs.Complexes.{cx, conjugate}
 use Rattle.floats.specs.declared.complex.Complex.{Complex}
-use Rattle.ends.specs.Ends.{+0, fftNear, fftFar, endCell, fftSteps}
+use Rattle.ends.specs.Ends.{fftNear, fftFar, endCell, fftSteps}
 use Rattle.finite.proofs.Ends.{end-cell}
 use Rattle.accuracy.specs.Gauss.{Gauss, plusG, minusG, timesG, scaleG, Disc, Off, valC}
 use Rattle.accuracy.specs.House.{house}

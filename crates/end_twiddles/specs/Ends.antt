@@ -1,17 +1,13 @@
 -- The end twiddles of a length, two words each. Assumes nothing.
 use Prim.Native.Nat.{ℕ}
 use mathlib.Core.List.{List}
-use lib.Ieee.{Float, binary32, mul, neg, ofBits}
+use lib.Ieee.{Float, binary32, mul, neg}
 use Rattle.counts.specs.Counts.{endCount}
 use Rattle.turn.specs.Calls.{part}
-use Rattle.turn.specs.Turns.{turnOf, wordsOf}
+use Rattle.turn.specs.Turns.{0·5, turnOf, wordsOf}
 use Rattle.packing.specs.Words.{pairs}
 use Rattle.end_twiddles.specs.declared.inner.ends.Direction.{Direction}
 use Rattle.end_twiddles.specs.declared.inner.ends.Direction.the-variants.{Forward, Inverse}
-
--- one half
-abbrev pub 0·5 : Float
-0·5 = ofBits binary32 1056964608
 
 -- forward half of a turn's words; inverse the sine negated
 abbrev pub directed : Direction → Float × Float → Float × Float

@@ -4,10 +4,11 @@ use Rattle.sequences.proofs.Basics.{set, ext-getD, getD-set-same, getD-set-othe
 use lib.Ieee.{Float, nan}
 use Rattle.schedule.specs.Stage.{tabulate}
 use Rattle.schedule.proofs.Cells.{length-tabulate, getD-tabulate}
+use Rattle.turn.specs.Turns.{+0}
 use Rattle.floats.specs.Complexes.{blank, conjugate, cell, putCell, paired, flat}
 use Rattle.floats.specs.declared.complex.Complex.{Complex}
 use Rattle.floats.proofs.Flat.{get-paired, length-paired, flat-paired, length-flat, cell-flat, length-put, get-put, get-other}
-use Rattle.ends.specs.Ends.{+0, Steps, endCell, endLent, ended, conjugated, zeros}
+use Rattle.ends.specs.Ends.{Steps, endCell, endLent, ended, conjugated, zeros}
 use Rattle.ends.specs.Parts.{Stepped}
 
 -- words whose cells are f 0, f 1, .. are these written out

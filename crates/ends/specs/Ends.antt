@@ -4,17 +4,11 @@ use Prim.Native.Nat.{ℕ, _+_, _-_, _*_}
 use mathlib.Core.Bool.{cond}
 use mathlib.Core.List.{List}
 use lib.Dec.{eqb, ltb}
-use lib.Ieee.{Float, binary32, add, sub, mul, neg, ofBits}
+use lib.Ieee.{Float, binary32, add, sub, mul, neg}
 use Rattle.schedule.specs.Stage.{tabulate}
+use Rattle.turn.specs.Turns.{+0, 0·5}
 use Rattle.floats.specs.Complexes.{cx, plus, minus, conjugate, cell, flat}
 use Rattle.floats.specs.declared.complex.Complex.{Complex}
-
-abbrev pub +0 : Float
-+0 = ofBits binary32 0
-
--- one half
-abbrev pub 0·5 : Float
-0·5 = ofBits binary32 1056964608
 
 -- ---- a pair of cells a and b, with its end twiddle t
 

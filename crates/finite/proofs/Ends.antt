@@ -4,9 +4,10 @@ use Rattle.sequences.proofs.Basics.{eqb-true, eqb-false, ltb-true, ltb-false}
 use lib.Ieee.{Float, binary32, ofBits, mul}
 use Rattle.schedule.specs.Stage.{tabulate}
 use Rattle.schedule.proofs.Cells.{length-tabulate, getD-tabulate}
+use Rattle.turn.specs.Turns.{+0, 0·5}
 use Rattle.floats.specs.Complexes.{blank, plus, minus, conjugate, cell, flat}
 use Rattle.floats.specs.declared.complex.Complex.{Complex}
-use Rattle.ends.specs.Ends.{+0, 0·5, mixed, fftNear, fftFar, ifftNear, ifftFar, Steps, endCell, fftSteps, ifftSteps, conjugated}
+use Rattle.ends.specs.Ends.{mixed, fftNear, fftFar, ifftNear, ifftFar, Steps, endCell, fftSteps, ifftSteps, conjugated}
 use Rattle.finite.specs.Sizes.{AtMost, Both, Words}
 use Rattle.finite.proofs.Sizes.{Room, add-most, sub-most, mul-most, neg-most}
 use Rattle.finite.proofs.Stages.{six, plus-both, minus-both, once-most, both-shifted, conjugate-both}

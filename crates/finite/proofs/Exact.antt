@@ -13,14 +13,14 @@ use Rattle.schedule.specs.Buffers.{alternated, driven, heldIn}
 use Rattle.schedule.specs.Plans.{inUse}
 use Rattle.schedule.specs.Stage.{tabulate, kernelTurn, iteration, place, twiddledIn, read, total, plain, output, stageBy, stage}
 use Rattle.schedule.proofs.Plans.{use-length, use-product, use-radix}
-use Rattle.turn.specs.Turns.{indexOf, turnAt, turnOf}
+use Rattle.turn.specs.Turns.{+0, indexOf, turnAt, turnOf}
 use Rattle.turn.specs.declared.Turn.the-variants.{Half}
 use Rattle.floats.specs.Complexes.{blank, plus, conjugate, turnedBy, cell, paired, flat}
 use Rattle.floats.specs.declared.complex.Complex.{Complex}
 use Rattle.floats.proofs.Flat.{get-paired}
 use Rattle.kernel.specs.Floats.{floats, lentAt, stageOf}
 use Rattle.stage.specs.Runs.{ownOf, stageIn}
-use Rattle.ends.specs.Ends.{+0, endCell, ended, ifftSteps, postprocess-fft, conjugated, zeros}
+use Rattle.ends.specs.Ends.{endCell, ended, ifftSteps, postprocess-fft, conjugated, zeros}
 use Rattle.transform.specs.Parts.{Forwardable, Invertible}
 use Rattle.transform.specs.Transforms.{dataOf, padOf, forwardRun, forwardOf, preparedOf, inverseRun, restored, inverseOf}
 use Rattle.transform.proofs.Transforms.{plan-twice}

@@ -4,11 +4,11 @@ use lib.Ieee.{Float, ofBits}
 use Rattle.plan.specs.declared.Record.{Record}
 use Rattle.schedule.specs.Stage.{Part}
 use Rattle.turn.specs.Calls.{part}
-use Rattle.turn.specs.Turns.{turnOf, wordsOf}
+use Rattle.turn.specs.Turns.{0·5, turnOf, wordsOf}
 use Rattle.turn.proofs.Small.{words-small}
 use Rattle.twiddle.specs.Calls.{filled}
 use Rattle.packing.specs.Twiddles.{twiddle, stageWords, stagesWords}
-use Rattle.end_twiddles.specs.Ends.{0·5, directed, endTwiddle, endWords}
+use Rattle.end_twiddles.specs.Ends.{directed, endTwiddle, endWords}
 use Rattle.packing.specs.Words.{pairs, packed}
 use Rattle.end_twiddles.specs.declared.inner.ends.Direction.{Direction}
 use Rattle.end_twiddles.specs.declared.inner.ends.Direction.the-variants.{Forward, Inverse}

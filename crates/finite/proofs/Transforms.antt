@@ -15,13 +15,14 @@ use Rattle.schedule.specs.Plans.{inUse}
 use Rattle.schedule.proofs.Cells.{length-tabulate, getD-tabulate}
 use Rattle.schedule.proofs.Buffers.{driven-none}
 use Rattle.schedule.proofs.Plans.{use-length, use-product, use-radix}
+use Rattle.turn.specs.Turns.{+0}
 use Rattle.packing.specs.Places.{place}
 use Rattle.packing.proofs.Widths.{width-bounds}
 use Rattle.floats.specs.Complexes.{cell}
 use Rattle.kernel.proofs.Widths.{place-lt}
 use Rattle.stage.specs.Runs.{stageIn, runOf, lentTo}
 use Rattle.stage.proofs.Runs.{own-within}
-use Rattle.ends.specs.Ends.{+0, endCell, endLent, ended, fftSteps, ifftSteps, preprocess-ifft, conjugated, zeros}
+use Rattle.ends.specs.Ends.{endCell, endLent, ended, fftSteps, ifftSteps, preprocess-ifft, conjugated, zeros}
 use Rattle.ends.proofs.Cells.{length-ended, length-conjugated}
 use Rattle.transform.specs.Parts.{Forwardable, Invertible}
 use Rattle.transform.specs.Transforms.{dataOf, padOf, forwardRun, forwardOf, preparedOf, inverseRun, restored, inverseOf}

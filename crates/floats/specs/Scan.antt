@@ -15,6 +15,10 @@ fits k nan = false
 fits k (inf s) = false
 fits k (fin s m e) = leb (m * up e) (2 ^ k * down e)
 
+-- numbers of bins, and those that a stage is given, are at most 2 ^ 48
+abbrev pub ceiling : ℕ
+ceiling = 48
+
 -- the index of the first number at which the test fails, or the length
 abbrev pub firstNot : (Float → Bool) → List Float → ℕ
 firstNot f xs = firstThat (λ x. not (f x)) xs

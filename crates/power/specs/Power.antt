@@ -10,10 +10,10 @@ use Rattle.refusal.specs.Refusal.{_⇒_, verdict}
 use Rattle.refusal.specs.declared.Refusal.the-variants.{Length, Number, Bins}
 use Rattle.refusal.specs.declared.Verdict.{Verdict}
 use Rattle.refusal.specs.declared.Verdict.the-variants.{Accepted, Refused}
+use Rattle.turn.specs.Turns.{+0}
 use Rattle.floats.specs.Complexes.{cell}
-use Rattle.floats.specs.Scan.{firstUnfit}
+use Rattle.floats.specs.Scan.{ceiling, firstUnfit}
 use Rattle.floats.specs.declared.complex.Complex.{Complex}
-use Rattle.ends.specs.Ends.{+0}
 use Rattle.power.specs.declared.Summed.{Summed}
 
 -- of one bin
@@ -31,7 +31,7 @@ powerVerdict xs lo hi =
     verdict
     ((not (eqb (length xs % 2) 0) || ltb (length xs) 4 || ltb 8194 (length xs)) ⇒ Length 0
     ∷ (ltb hi lo || not (ltb hi (length xs / 2))) ⇒ Bins
-    ∷ ltb (firstUnfit 48 xs) (length xs) ⇒ Number (firstUnfit 48 xs)
+    ∷ ltb (firstUnfit ceiling xs) (length xs) ⇒ Number (firstUnfit ceiling xs)
     ∷ [])
 
 -- the sum, or +0 beside the refusal

@@ -1,6 +1,6 @@
 -- A wrong program that the promise of `forward` shuts out: one spectrum for everything, at n = 2. Assumes nothing.
 use Rattle.sequences.proofs.Basics.{_≡_, refl, sym, ap, _∙_, ℕ, arith, Bool, true, false, List, [], _∷_, eqb, getD}
-use lib.Ieee.{Float, nan, inf, fin, binary32, ofBits, add}
+use lib.Ieee.{Float, nan, inf, fin, ofBits, add}
 use Rattle.sequences.specs.Lists.{firstThat}
 use Rattle.refusal.specs.declared.Verdict.{Verdict}
 use Rattle.refusal.specs.declared.Verdict.the-variants.{Accepted}
@@ -12,10 +12,11 @@ use Rattle.plan.specs.Record.{isPlanned, inOrder, sized}
 use Rattle.plan.specs.declared.Record.{Record}
 use Rattle.schedule.specs.Buffers.{alternated, driven}
 use Rattle.schedule.specs.Stage.{tabulate}
+use Rattle.turn.specs.Turns.{+0, +1}
 use Rattle.packing.specs.Places.{isWidth}
 use Rattle.floats.specs.Complexes.{flat}
 use Rattle.floats.specs.Scan.{fits, firstUnfit}
-use Rattle.ends.specs.Ends.{+0, endCell, ended}
+use Rattle.ends.specs.Ends.{endCell, ended}
 use Rattle.spectrum.specs.Calls.{Forwards, forwardVerdict, lentVerdict}
 use Rattle.transform.specs.Transforms.{Slices, forwardRun, forwardOf}
 
@@ -25,7 +26,7 @@ two = record { n = 2; half = 1; count = 0; radices = 0 ∷ 0 ∷ 0 ∷ 0 ∷ 0 �
 
 -- the samples 1, 0, and silence
 abbrev pulse : List Float
-pulse = ofBits binary32 1065353216 ∷ +0 ∷ []
+pulse = +1 ∷ +0 ∷ []
 
 abbrev silence : List Float
 silence = +0 ∷ +0 ∷ []

@@ -12,7 +12,7 @@ use Rattle.counts.specs.Counts.{stageTwiddles, endCount}
 use Rattle.plan.specs.Record.{isPlanned}
 use Rattle.plan.specs.declared.Record.{Record}
 use Rattle.packing.specs.Places.{isWidth}
-use Rattle.floats.specs.Scan.{firstUnfit}
+use Rattle.floats.specs.Scan.{ceiling, firstUnfit}
 use Rattle.transform.specs.Transforms.{Slices, forwardOf, inverseOf}
 
 -- how many words the bins of a plan have
@@ -55,7 +55,7 @@ forwardVerdict p W xs output scratch stage end = lentVerdict p W (eqb (length xs
 
 -- inverse: all bins, numbers at most 2 ^ 48, in, n samples and more out
 abbrev pub inverseVerdict : Record → (W : ℕ) → (xs : List Float) → (output scratch : ℕ) → (stage end : List Float) → Verdict
-inverseVerdict p W xs output scratch stage end = lentVerdict p W (eqb (length xs) (binWords p)) (not (ltb output (p .n))) scratch 48 xs stage end
+inverseVerdict p W xs output scratch stage end = lentVerdict p W (eqb (length xs) (binWords p)) (not (ltb output (p .n))) scratch ceiling xs stage end
 
 -- what `forward` promises of its answer r and of what is left in output and scratch
 abbrev pub Forwards : Record → (W : ℕ) → (stage end xs : List Float) → Slices → Verdict → Slices → Type 0

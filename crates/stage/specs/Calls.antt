@@ -12,7 +12,7 @@ use Rattle.counts.specs.Counts.{twiddleCount}
 use Rattle.plan.specs.Record.{isPlanned}
 use Rattle.plan.specs.declared.Record.{Record}
 use Rattle.packing.specs.Places.{isWidth}
-use Rattle.floats.specs.Scan.{firstUnfit}
+use Rattle.floats.specs.Scan.{ceiling, firstUnfit}
 use Rattle.kernel.specs.Floats.{stageOf}
 
 -- refusals 5, 15, 6 and 8 of slices of so many words, in this order: 2h in, 2h out, two for each of the stage's own twiddles
@@ -29,7 +29,7 @@ sizeRows p j W input output twiddles =
 -- refusals 9 and 10: numbers in at most 2 ^ 48, twiddles at most 1
 abbrev pub numberRows : (input twiddles : List Float) → List Row
 numberRows xs tw =
-    ltb (firstUnfit 48 xs) (length xs) ⇒ Number (firstUnfit 48 xs)
+    ltb (firstUnfit ceiling xs) (length xs) ⇒ Number (firstUnfit ceiling xs)
     ∷ ltb (firstUnfit 0 tw) (length tw) ⇒ Twiddle (firstUnfit 0 tw)
     ∷ []
 

@@ -37,11 +37,17 @@ entryOf index = mirrored (index / 1680) (index % 1680)
 
 -- ---- rounded
 
+-- zero with a plus sign
 abbrev pub +0 : Float
 +0 = ofBits binary32 0
 
+-- one
 abbrev pub +1 : Float
 +1 = ofBits binary32 1065353216
+
+-- one half
+abbrev pub 0·5 : Float
+0·5 = ofBits binary32 1056964608
 
 -- a number of a turn, plus or minus a / 2 ^ 60: the nearest f32, ties to even; zero is +0
 unfoldable pub rounded : (minus : Bool) → ℕ → Float

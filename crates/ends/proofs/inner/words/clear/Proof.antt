@@ -1,6 +1,6 @@
 -- `ends::inner::words::clear` meets its contract. Assumes nothing.
 use Rattle.sequences.proofs.Basics.{_≡_, refl, _∙_, _-_, _≤_, arith, length, length-set, needs}
-use Rattle.ends.specs.Ends.{+0}
+use Rattle.turn.specs.Turns.{+0}
 use Rattle.ends.proofs.Cells.{Cleared, cleared-next, cleared-all}
 use Rattle.ends.proofs.inner.words.clear as fn
 
