@@ -3,6 +3,8 @@ use Rattle.sequences.proofs.Basics.{_≡_, refl, sym, ap, ap₂, _∙_, subst, 
 use Rattle.sequences.proofs.Basics.{mul-le-mul-left, le-of-mul-le-mul-right, arith, List, _++_, lit≤, length, getD, drop, length-append, length-drop, getD-take}
 use Rattle.sequences.proofs.Basics.{pow-pos}
 use lib.Ieee.{Float, nan, binary32, neg}
+use Rattle.sequences.specs.Lists.{tabulate}
+use Rattle.sequences.proofs.Tables.{getD-tabulate, length-tabulate}
 use Rattle.refusal.specs.declared.Verdict.{Verdict}
 use Rattle.refusal.specs.declared.Verdict.the-variants.{Accepted}
 use Rattle.refusal.proofs.Rows.{settled}
@@ -12,8 +14,7 @@ use Rattle.counts.specs.declared.Buffer.the-variants.{Data, Scratchpad}
 use Rattle.plan.specs.declared.Record.{Record}
 use Rattle.schedule.specs.Buffers.{Two, heldIn}
 use Rattle.schedule.specs.Plans.{inUse}
-use Rattle.schedule.specs.Stage.{tabulate, run, plain}
-use Rattle.schedule.proofs.Cells.{getD-tabulate, length-tabulate}
+use Rattle.schedule.specs.Stage.{run, plain}
 use Rattle.schedule.proofs.Plans.{use-length, use-product}
 use Rattle.turn.specs.Calls.{part}
 use Rattle.turn.specs.Turns.{turnOf, wordsOf}

@@ -4,11 +4,12 @@ use Rattle.sequences.proofs.Basics.{le-trans, le-of-eq, le-of-lt, mul-le-mul-le
 use Rattle.sequences.proofs.Basics.{zero-mod, le-add-left, lt-of-lt-of-le, div-mul-le-self, div-self, div-one, arith, List, lit≤, lit<, length, getD, drop}
 use Rattle.sequences.proofs.Basics.{pow-pos, digits-lt, digits-mod}
 use lib.Ieee.{binary32}
+use Rattle.sequences.proofs.Tables.{getD-tabulate}
 use Rattle.counts.specs.Counts.{stride, radix}
 use Rattle.radices.specs.Lists.{product}
 use Rattle.counts.proofs.Counts.{stride-none}
 use Rattle.schedule.specs.Stage.{twiddleTurn, kernelTurn, twiddledIn, read as readOf, total as totalOf, plain, output, stageBy, stage, run, iteration, place}
-use Rattle.schedule.proofs.Cells.{getD-tabulate, pos-left, pos-right, by-stride, by-radix, by-both, iteration-block, place-block}
+use Rattle.schedule.proofs.Cells.{pos-left, pos-right, by-stride, by-radix, by-both, iteration-block, place-block}
 use Rattle.schedule.proofs.Strides.{stride-suc, stride-drop, stride-length}
 use Rattle.turn.specs.Calls.{part}
 use Rattle.turn.specs.Turns.{turnOf}

@@ -10,14 +10,14 @@ use Rattle.refusal.proofs.Rows.{settled}
 use Rattle.counts.specs.Counts.{radix, stride, twiddleCount, twiddleStart, endCount, resultIn}
 use Rattle.merging.specs.Half.{halving, halved, half}
 use Rattle.radices.specs.Lists.{isRadix, product, firstBad, indexOf, firstOver, countOf, padded, eqList}
-use Rattle.sequences.specs.Lists.{firstThat}
+use Rattle.sequences.specs.Lists.{firstThat, tabulate}
 use Rattle.merging.specs.Merging.{tally, applies, merge, firstRule, rulesUpTo, rules, mergedBy, merged, letters, sorted}
 use Rattle.plan.specs.Record.{planVerdict, factors, recordOf, refusedPlan, acceptedPlan, planned, Plans, inOrder, sized, isPlanned}
 use Rattle.plan.specs.declared.Planned.{Planned}
 use Rattle.plan.specs.declared.Record.{Record}
 use Rattle.schedule.specs.Buffers.{heldIn, alternated, driven}
 use Rattle.schedule.specs.Plans.{inUse}
-use Rattle.schedule.specs.Stage.{twiddleTurn, kernelTurn, iteration, place, tabulate, twiddledIn, read, total, plain, output, stageBy, stage, run}
+use Rattle.schedule.specs.Stage.{twiddleTurn, kernelTurn, iteration, place, twiddledIn, read, total, plain, output, stageBy, stage, run}
 use Rattle.turn.specs.Turns as Turns
 use Rattle.packing.specs.Places.{isWidth}
 use Rattle.floats.specs.Complexes.{paired, flat}

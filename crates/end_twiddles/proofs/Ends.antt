@@ -1,16 +1,15 @@
 -- Laws of the end twiddles: each is a whole number of steps of the circle, and in a row they are all. Assumes nothing.
-use Rattle.sequences.proofs.Basics.{_≡_, sym, ap, _∙_, ℕ, zero, suc, _+_, _*_, _/_, _%_, _<_, _≤_, mul-pos, mul-le-mul-right, add-one, arith, true, List}
-use Rattle.sequences.proofs.Basics.{length}
+use Rattle.sequences.proofs.Basics.{_≡_, sym, ap, _∙_, ℕ, zero, suc, _+_, _*_, _/_, _%_, _<_, _≤_, mul-pos, mul-le-mul-right, arith, true, List, length}
 use lib.Ieee.{Float, nan}
+use Rattle.sequences.specs.Pairs.{pairAt}
+use Rattle.sequences.proofs.Pairs.{pairs-all}
 use Rattle.counts.specs.Counts.{endCount}
 use Rattle.turn.specs.Turns.{housed, turnAt, wordsOf}
 use Rattle.turn.specs.declared.Turn.{Turn}
 use Rattle.turn.proofs.Index.{housed-pos, housed-parts, index-below}
 use Rattle.end_twiddles.specs.Ends.{directed, endTwiddle, endWords}
-use Rattle.packing.specs.Words.{putPairs}
 use Rattle.end_twiddles.specs.declared.inner.ends.Direction.{Direction}
 use Rattle.counts.proofs.Counts.{end-few}
-use Rattle.packing.proofs.Words.{puts-row}
 
 pub end-inside : (n k : ℕ) → housed n ≡ true → k ≤ endCount n → k < n
 end-inside n k h l = omega (arith, end-few n (housed-pos n h))
@@ -39,12 +38,12 @@ module _ (n : ℕ) (h : housed n ≡ true) where
   -- the words that the code finds are those of the next end twiddle
   pub end-next : (d : Direction) (k : ℕ) → k < endCount n → (t : Turn) (v w : Float × Float) → t ≡ turnAt ((k + 1) * (6720 / n)) → v ≡ wordsOf t
       → w ≡ directed d v
-      → w ≡ endTwiddle d n (suc k)
+      → w ≡ endTwiddle d n (k + 1)
   unfolding endTwiddle
-  end-next d k l t v w et ev ew = ew ∙ ap (directed d) (ev ∙ ap wordsOf (et ∙ sym (index-below (k + 1) n h (inside k l) .1))) ∙ rw (add-one)
+  end-next d k l t v w et ev ew = ew ∙ ap (directed d) (ev ∙ ap wordsOf (et ∙ sym (index-below (k + 1) n h (inside k l) .1)))
 
--- written one after the other they are all
-pub ends-done : (d : Direction) (n k : ℕ) (ys out : List Float) → length ys ≡ 2 * endCount n → k ≡ endCount n → out ≡ putPairs 0 1 (endTwiddle d n) ys k
-    → out ≡ endWords d n
+-- in a row they are all
+pub ends-done : (d : Direction) (n : ℕ) (out : List Float) → length out ≡ 2 * endCount n
+    → ((p : ℕ) → p < endCount n → pairAt nan out p ≡ endTwiddle d n (p + 1)) → out ≡ endWords d n
 unfolding endWords
-ends-done d n k ys out e ek eo = eo ∙ ap (putPairs 0 1 (endTwiddle d n) ys) ek ∙ puts-row nan (endTwiddle d n) ys (endCount n) e
+ends-done d n out e all = pairs-all nan out (endCount n) 1 (endTwiddle d n) e (λ p l. all p l ∙ ap (endTwiddle d n) (omega arith))

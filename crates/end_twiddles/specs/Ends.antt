@@ -2,10 +2,10 @@
 use Prim.Native.Nat.{ℕ}
 use mathlib.Core.List.{List}
 use lib.Ieee.{Float, binary32, mul, neg}
+use Rattle.sequences.specs.Pairs.{pairs}
 use Rattle.counts.specs.Counts.{endCount}
 use Rattle.turn.specs.Calls.{part}
 use Rattle.turn.specs.Turns.{0·5, turnOf, wordsOf}
-use Rattle.packing.specs.Words.{pairs}
 use Rattle.end_twiddles.specs.declared.inner.ends.Direction.{Direction}
 use Rattle.end_twiddles.specs.declared.inner.ends.Direction.the-variants.{Forward, Inverse}
 

@@ -1,10 +1,10 @@
 -- Laws of pairs taken several at a time: the cells of a row pasted into another, a batch pair by pair, and a batch put in its place. Assumes nothing.
 use Rattle.sequences.proofs.Basics.{_≡_, sym, ap, ap₂, _∙_, ℕ, _+_, _-_, _*_, _≤_, _<_, not-suc-le-zero, arith, ℕ-discrete, decLe, _⊎_, inl, inr, ⊎-elim, List}
-use Rattle.sequences.proofs.Basics.{_++_, length, getD, take, drop, length-append, length-drop, List·getD-append, length-take-le, getD-append-add, getD-take}
-use Rattle.sequences.proofs.Basics.{getD-drop}
+use Rattle.sequences.proofs.Basics.{length, getD, take, drop, length-drop, length-take-le}
 use lib.Ieee.{Float, nan}
+use Rattle.sequences.specs.Lists.{pasted}
+use Rattle.sequences.proofs.Pasted.{length-pasted, pasted-before, pasted-in, pasted-after}
 use Rattle.floats.specs.Complexes.{cx, cell, putCell}
-use Rattle.floats.specs.Words.{pasted}
 use Rattle.floats.specs.declared.complex.Complex.{Complex}
 use Rattle.floats.proofs.Flat.{cell-take, cell-drop, get-put, get-other}
 use Rattle.ends.specs.Ends.{Steps, endCell, endLent}
@@ -13,47 +13,19 @@ use Rattle.ends.proofs.Cells.{end-near, end-far}
 
 -- ---- a row pasted into another
 
-module _ (ys zs : List Float) (at : ℕ) (room : at + length zs ≤ length ys) where
-  -- what comes before the rest
-  abbrev front : List Float
-  front = take at ys ++ zs
-
-  before : length (take at ys) ≡ at
-  before = length-take-le at ys (omega arith)
-
-  front-length : length front ≡ at + length zs
-  front-length = length-append (take at ys) zs ∙ ap (λ (n : ℕ). n + length zs) before
-
-  pub length-pasted : length (pasted ys at zs) ≡ length ys
-  length-pasted = length-append front (drop (at + length zs) ys) ∙ omega (arith, front-length, length-drop (at + length zs) ys)
-
-  word-before : (i : ℕ) → i < at → getD (pasted ys at zs) i nan ≡ getD ys i nan
-  word-before i l = List·getD-append front (drop (at + length zs) ys) nan i (omega (arith, front-length))
-      ∙ List·getD-append (take at ys) zs nan i (omega (arith, before)) ∙ getD-take at ys i nan l
-
-  word-in : (i : ℕ) → i < length zs → getD (pasted ys at zs) (at + i) nan ≡ getD zs i nan
-  word-in i l = List·getD-append front (drop (at + length zs) ys) nan (at + i) (omega (arith, front-length))
-      ∙ ap (λ (n : ℕ). getD front (n + i) nan) (sym before) ∙ getD-append-add (take at ys) zs i nan
-
-  word-after : (i : ℕ) → at + length zs ≤ i → getD (pasted ys at zs) i nan ≡ getD ys i nan
-  word-after i l =
-      let d = i - (at + length zs) in
-      ap (λ (n : ℕ). getD (pasted ys at zs) n nan) {x = i} {y = length front + d} (omega (arith, front-length))
-      ∙ getD-append-add front (drop (at + length zs) ys) d nan ∙ getD-drop (at + length zs) ys d nan ∙ ap (λ (n : ℕ). getD ys n nan) (omega arith)
-
--- its cells, where it goes to cell a and has n cells
+-- where it goes to cell a and has n cells
 module _ (ys zs : List Float) (a n : ℕ) (size : length zs ≡ 2 * n) (room : 2 * (a + n) ≤ length ys) where
   fine : 2 * a + length zs ≤ length ys
   fine = omega arith
 
   pub cell-in : (j : ℕ) → j < n → cell (pasted ys (2 * a) zs) (a + j) ≡ cell zs j
-  cell-in j l = ap₂ cx (ap (λ (i : ℕ). getD (pasted ys (2 * a) zs) i nan) (omega arith) ∙ word-in ys zs (2 * a) fine (2 * j) (omega arith))
-      (ap (λ (i : ℕ). getD (pasted ys (2 * a) zs) i nan) (omega arith) ∙ word-in ys zs (2 * a) fine (2 * j + 1) (omega arith))
+  cell-in j l = ap₂ cx (ap (λ (i : ℕ). getD (pasted ys (2 * a) zs) i nan) (omega arith) ∙ pasted-in ys zs (2 * a) fine nan (2 * j) (omega arith))
+      (ap (λ (i : ℕ). getD (pasted ys (2 * a) zs) i nan) (omega arith) ∙ pasted-in ys zs (2 * a) fine nan (2 * j + 1) (omega arith))
 
   pub cell-out : (j : ℕ) → (j < a) ⊎ (a + n ≤ j) → cell (pasted ys (2 * a) zs) j ≡ cell ys j
   cell-out j d = ⊎-elim
-      (λ (l : j < a). ap₂ cx (word-before ys zs (2 * a) fine (2 * j) (omega arith)) (word-before ys zs (2 * a) fine (2 * j + 1) (omega arith)))
-      (λ (l : a + n ≤ j). ap₂ cx (word-after ys zs (2 * a) fine (2 * j) (omega arith)) (word-after ys zs (2 * a) fine (2 * j + 1) (omega arith)))
+      (λ (l : j < a). ap₂ cx (pasted-before ys zs (2 * a) fine nan (2 * j) (omega arith)) (pasted-before ys zs (2 * a) fine nan (2 * j + 1) (omega arith)))
+      (λ (l : a + n ≤ j). ap₂ cx (pasted-after ys zs (2 * a) fine nan (2 * j) (omega arith)) (pasted-after ys zs (2 * a) fine nan (2 * j + 1) (omega arith)))
       d
 
 -- the last n cells of 32, as they are cut out

@@ -1,22 +1,19 @@
 -- Laws of cells changed in place: a flat list from its cells, the steps at the ends pair by pair, and a row cell by cell. Assumes nothing.
-use Rattle.sequences.proofs.Basics.{_≡_, refl, sym, ap, _∙_, ℕ, _+_, _-_, _*_, _≤_, _<_, not-suc-le-zero, arith, ℕ-discrete, decLe, _≢_, List, length, getD}
-use Rattle.sequences.proofs.Basics.{set, ext-getD, getD-set-same, getD-set-other, lt-ltb, le-ltb, eq-eqb, ne-eqb}
-use lib.Ieee.{Float, nan}
-use Rattle.schedule.specs.Stage.{tabulate}
-use Rattle.schedule.proofs.Cells.{length-tabulate, getD-tabulate}
-use Rattle.turn.specs.Turns.{+0}
+use Rattle.sequences.proofs.Basics.{_≡_, refl, sym, ap, _∙_, ℕ, _+_, _-_, _*_, _≤_, _<_, not-suc-le-zero, arith, ℕ-discrete, decLe, _≢_, List, length, lt-ltb}
+use Rattle.sequences.proofs.Basics.{le-ltb, eq-eqb, ne-eqb}
+use lib.Ieee.{Float}
+use Rattle.sequences.specs.Lists.{tabulate}
+use Rattle.sequences.proofs.Tables.{length-tabulate, getD-tabulate, table-all}
 use Rattle.floats.specs.Complexes.{blank, conjugate, cell, putCell, paired, flat}
 use Rattle.floats.specs.declared.complex.Complex.{Complex}
 use Rattle.floats.proofs.Flat.{get-paired, length-paired, flat-paired, length-flat, cell-flat, length-put, get-put, get-other}
-use Rattle.ends.specs.Ends.{Steps, endCell, endLent, ended, conjugated, zeros}
+use Rattle.ends.specs.Ends.{Steps, endCell, endLent, ended, conjugated}
 use Rattle.ends.specs.Parts.{Stepped}
 
 -- words whose cells are f 0, f 1, .. are these written out
 pub flat-cells : (n : ℕ) (f : ℕ → Complex) (ys : List Float) → length ys ≡ 2 * n → ((j : ℕ) → j < n → cell ys j ≡ f j) → ys ≡ flat (tabulate n 0 f)
-flat-cells n f ys l e = sym (flat-paired n ys l) ∙ ap flat
-    (ext-getD blank (paired ys) (tabulate n 0 f) (length-paired n ys l ∙ sym (length-tabulate n 0 f)) (λ j lj.
-    let small : j < n = rw (length-paired n ys l) at lj in
-    get-paired ys j (omega arith) ∙ e j small ∙ sym (getD-tabulate n 0 f j blank small ∙ ap f (omega arith))))
+flat-cells n f ys l e =
+    sym (flat-paired n ys l) ∙ ap flat (table-all f (paired ys) n blank (length-paired n ys l) (λ j lj. get-paired ys j (omega arith) ∙ e j lj))
 
 -- and back
 pub cell-tabulated : (n : ℕ) (f : ℕ → Complex) (k : ℕ) → k < n → cell (flat (tabulate n 0 f)) k ≡ f k
@@ -171,21 +168,3 @@ module _ (f : Complex → Complex) (xs : List Float) where
 pub conjugated-all : (h : ℕ) (xs ys : List Float) → length xs ≡ 2 * h → Mapped conjugate xs ys h → ys ≡ conjugated h xs
 unfolding conjugated
 conjugated-all h xs ys l m = flat-cells h (λ j. conjugate (cell xs j)) ys (m .size ∙ l) (m .done)
-
--- ---- a row, word by word
-
--- the first k words are +0
-abbrev pub Cleared : List Float → ℕ → Type 0
-Cleared ys k = (j : ℕ) → j < k → getD ys j nan ≡ +0
-
-pub cleared-next : (ys : List Float) (k : ℕ) → k < length ys → Cleared ys k → Cleared (set ys k +0) (k + 1)
-cleared-next ys k l c j lj = pick (ℕ-discrete j k)
-  where
-    pick : Dec (j ≡ k) → getD (set ys k +0) j nan ≡ +0
-    pick (yes q) = rw q (getD-set-same ys k +0 nan l)
-    pick (no q) = getD-set-other ys k j +0 nan q ∙ c j (omega (arith, q))
-
-pub cleared-all : (ys : List Float) (n k : ℕ) → length ys ≡ n → n ≤ k → Cleared ys k → ys ≡ zeros n
-cleared-all ys n k e l c = ext-getD nan ys (zeros n) (e ∙ sym (length-tabulate n 0 (λ j. +0))) (λ j lj.
-    let small : j < n = rw e at lj in
-    c j (omega arith) ∙ sym (getD-tabulate n 0 (λ j. +0) j nan small))

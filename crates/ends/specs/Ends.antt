@@ -5,7 +5,7 @@ use mathlib.Core.Bool.{cond}
 use mathlib.Core.List.{List}
 use lib.Dec.{eqb, ltb}
 use lib.Ieee.{Float, binary32, add, sub, mul, neg}
-use Rattle.schedule.specs.Stage.{tabulate}
+use Rattle.sequences.specs.Lists.{tabulate}
 use Rattle.turn.specs.Turns.{+0, 0·5}
 use Rattle.floats.specs.Complexes.{cx, plus, minus, conjugate, cell, flat}
 use Rattle.floats.specs.declared.complex.Complex.{Complex}

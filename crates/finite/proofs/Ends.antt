@@ -2,8 +2,8 @@
 use Rattle.sequences.proofs.Basics.{_≡_, refl, sym, ap, _∙_, subst, ℕ, _+_, _-_, _*_, _^_, _≤_, _<_, arith, Bool, true, false, cond, List, eqb, ltb, lit≤}
 use Rattle.sequences.proofs.Basics.{eqb-true, eqb-false, ltb-true, ltb-false}
 use lib.Ieee.{Float, binary32, ofBits, mul}
-use Rattle.schedule.specs.Stage.{tabulate}
-use Rattle.schedule.proofs.Cells.{length-tabulate, getD-tabulate}
+use Rattle.sequences.specs.Lists.{tabulate}
+use Rattle.sequences.proofs.Tables.{length-tabulate, getD-tabulate}
 use Rattle.turn.specs.Turns.{+0, 0·5}
 use Rattle.floats.specs.Complexes.{blank, plus, minus, conjugate, cell, flat}
 use Rattle.floats.specs.declared.complex.Complex.{Complex}

@@ -4,6 +4,7 @@ use Rattle.sequences.proofs.Basics.{_≡_, refl, sym, ap, ap₂, _∙_, subst, 
 use Rattle.sequences.proofs.Basics.{false, inl, inr, List, [], _∷_, _++_, lit≤, length, getD}
 use lib.IntN.{ℤ, pos, _*ℤ_}
 use lib.Ieee.{Float, nan, binary32, add, sub, neg}
+use Rattle.sequences.specs.Lists.{tabulate}
 use Rattle.counts.specs.Counts.{radix, stride, resultIn}
 use Rattle.radices.specs.Lists.{product}
 use Rattle.plan.specs.Record.{isPlanned}
@@ -11,7 +12,7 @@ use Rattle.plan.specs.declared.Record.{Record}
 use Rattle.plan.proofs.Bounds.{plan-radix-bounds}
 use Rattle.schedule.specs.Buffers.{alternated, driven, heldIn}
 use Rattle.schedule.specs.Plans.{inUse}
-use Rattle.schedule.specs.Stage.{tabulate, kernelTurn, iteration, place, twiddledIn, read, total, plain, output, stageBy, stage}
+use Rattle.schedule.specs.Stage.{kernelTurn, iteration, place, twiddledIn, read, total, plain, output, stageBy, stage}
 use Rattle.schedule.proofs.Plans.{use-length, use-product, use-radix}
 use Rattle.turn.specs.Turns.{+0, indexOf, turnAt, turnOf}
 use Rattle.turn.specs.declared.Turn.the-variants.{Half}

@@ -1,6 +1,8 @@
 -- Every word of a filling is at most 1. Assumes nothing.
 use Rattle.sequences.proofs.Basics.{ℕ, zero, suc, _≤_, arith, List, lit≤}
 use lib.Ieee.{Float, ofBits}
+use Rattle.sequences.specs.Pairs.{pairs}
+use Rattle.packing.specs.Places.{packed}
 use Rattle.plan.specs.declared.Record.{Record}
 use Rattle.schedule.specs.Stage.{Part}
 use Rattle.turn.specs.Calls.{part}
@@ -9,7 +11,6 @@ use Rattle.turn.proofs.Small.{words-small}
 use Rattle.twiddle.specs.Calls.{filled}
 use Rattle.packing.specs.Twiddles.{twiddle, stageWords, stagesWords}
 use Rattle.end_twiddles.specs.Ends.{directed, endTwiddle, endWords}
-use Rattle.packing.specs.Words.{pairs, packed}
 use Rattle.end_twiddles.specs.declared.inner.ends.Direction.{Direction}
 use Rattle.end_twiddles.specs.declared.inner.ends.Direction.the-variants.{Forward, Inverse}
 use Rattle.finite.specs.Sizes.{AtMost, Words}

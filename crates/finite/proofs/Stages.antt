@@ -3,13 +3,14 @@
 use Rattle.sequences.proofs.Basics.{_≡_, sym, subst, ℕ, zero, suc, _+_, _-_, _*_, _/_, _^_, _≤_, _<_, le-trans, le-of-eq, mul-one, zero-add, arith, true, List}
 use Rattle.sequences.proofs.Basics.{lit≤, getD, drop}
 use lib.Ieee.{Float, nan, inf, fin, mul, binary32}
+use Rattle.sequences.proofs.Tables.{getD-tabulate}
 use Rattle.counts.specs.Counts.{radix, stride}
 use Rattle.radices.specs.Lists.{product}
 use Rattle.plan.specs.Record.{isPlanned}
 use Rattle.plan.specs.declared.Record.{Record}
 use Rattle.schedule.specs.Plans.{inUse}
 use Rattle.schedule.specs.Stage.{twiddleTurn, kernelTurn, iteration, place, twiddledIn, read, total, plain, output, stageBy, stage}
-use Rattle.schedule.proofs.Cells.{getD-tabulate, iteration-lt, read-lt}
+use Rattle.schedule.proofs.Cells.{iteration-lt, read-lt}
 use Rattle.schedule.proofs.Plans.{use-parts, use-radix-some, use-radix-few, use-stride-some}
 use Rattle.turn.specs.Turns.{turnOf, wordsOf}
 use Rattle.turn.specs.declared.Turn.{Turn}

@@ -2,6 +2,7 @@
 use Rattle.sequences.proofs.Basics.{_≡_, refl, sym, ap, _∙_, subst, ℕ, zero, suc, _+_, _-_, _*_, _/_, _≤_, _<_, arith, decLe, true, List, [], _∷_, _++_, length}
 use Rattle.sequences.proofs.Basics.{getD, drop, length-append, length-drop, List·getD-append, getD-append-add, getD-take, getD-drop, length-take-le}
 use lib.Ieee.{Float, nan}
+use Rattle.sequences.proofs.Tables.{length-tabulate, getD-tabulate}
 use Rattle.counts.specs.Counts.{radix, twiddleCount, twiddleStart, stageTwiddles, endCount, resultIn}
 use Rattle.radices.specs.Lists.{product}
 use Rattle.plan.specs.Record.{isPlanned}
@@ -12,7 +13,6 @@ use Rattle.plan.proofs.Bounds.{plan-order}
 use Rattle.counts.proofs.Counts.{count-later}
 use Rattle.schedule.specs.Buffers.{Two, driven, heldIn}
 use Rattle.schedule.specs.Plans.{inUse}
-use Rattle.schedule.proofs.Cells.{length-tabulate, getD-tabulate}
 use Rattle.schedule.proofs.Buffers.{driven-none}
 use Rattle.schedule.proofs.Plans.{use-length, use-product, use-radix}
 use Rattle.turn.specs.Turns.{+0}

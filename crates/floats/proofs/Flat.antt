@@ -1,10 +1,16 @@
 -- A flat list and its cells, those of a part of it, and one cell written.
 -- Assumes nothing.
-use Rattle.sequences.proofs.Basics.{_≡_, refl, sym, ap, ap₂, _∙_, ℕ, zero, suc, _+_, _*_, _<_, arith, _≢_, List, [], _∷_, _++_, length, getD, set, take, drop}
-use Rattle.sequences.proofs.Basics.{length-set, List·getD-append, getD-set-same, getD-set-other, getD-take, getD-drop, getD-append-add}
+use Rattle.sequences.proofs.Basics.{_≡_, refl, sym, ap, ap₂, _∙_, ℕ, zero, suc, _+_, _*_, _<_, arith, _≢_, List, [], _∷_, _++_, length, getD, take, drop}
+use Rattle.sequences.proofs.Basics.{getD-take, getD-drop}
+use Rattle.sequences.proofs.Pairs.{put-here, put-still, pair-before, pair-after}
+use Rattle.sequences.proofs.Pairs as Pairs
 use lib.Ieee.{Float, nan}
 use Rattle.floats.specs.declared.complex.Complex.{Complex}
 use Rattle.floats.specs.Complexes.{cx, blank, cell, putCell, paired, flat}
+
+-- a pair of words as a cell
+abbrev as-cell : Float × Float → Complex
+as-cell w = cx (w .0) (w .1)
 
 pub get-paired : (xs : List Float) (n : ℕ) → 2 * n + 1 < length xs → getD (paired xs) n blank ≡ cell xs n
 unfolding paired
@@ -47,14 +53,10 @@ cell-flat zs k l = sym (get-paired (flat zs) k (omega (arith, length-flat zs))) 
 -- ---- the cells of the beginning and of the end of a list
 
 pub cell-front : (xs ys : List Float) (j : ℕ) → 2 * j + 1 < length xs → cell (xs ++ ys) j ≡ cell xs j
-cell-front xs ys j l = ap₂ cx (List·getD-append xs ys nan (2 * j) (omega arith)) (List·getD-append xs ys nan (2 * j + 1) l)
+cell-front xs ys j l = ap as-cell (pair-before nan xs ys j l)
 
 pub cell-back : (xs ys : List Float) (n j : ℕ) → length xs ≡ 2 * n → cell (xs ++ ys) (n + j) ≡ cell ys j
-cell-back xs ys n j l =
-    let even : 2 * (n + j) ≡ length xs + 2 * j = omega arith in
-    let odd : 2 * (n + j) + 1 ≡ length xs + (2 * j + 1) = omega arith in
-    ap₂ cx (ap (λ (i : ℕ). getD (xs ++ ys) i nan) even ∙ getD-append-add xs ys (2 * j) nan)
-    (ap (λ (i : ℕ). getD (xs ++ ys) i nan) odd ∙ getD-append-add xs ys (2 * j + 1) nan)
+cell-back xs ys n j l = ap as-cell (pair-after nan xs ys n j l)
 
 pub cell-take : (xs : List Float) (n j : ℕ) → j < n → cell (take (2 * n) xs) j ≡ cell xs j
 cell-take xs n j l = ap₂ cx (getD-take (2 * n) xs (2 * j) nan (omega arith)) (getD-take (2 * n) xs (2 * j + 1) nan (omega arith))
@@ -67,14 +69,10 @@ cell-drop xs n j = ap₂ cx (getD-drop (2 * n) xs (2 * j) nan ∙ ap (λ (i : �
 
 module _ (xs : List Float) (k : ℕ) (z : Complex) where
   pub length-put : length (putCell xs k z) ≡ length xs
-  length-put = simp length-set
+  length-put = Pairs.length-put xs k (z .re, z .im)
 
   pub get-put : 2 * k + 1 < length xs → cell (putCell xs k z) k ≡ z
-  get-put l = ap₂ cx (getD-set-other (set xs (2 * k) (z .re)) (2 * k + 1) (2 * k) (z .im) nan (λ e. omega arith)
-      ∙ getD-set-same xs (2 * k) (z .re) nan (omega arith)) (getD-set-same (set xs (2 * k) (z .re)) (2 * k + 1) (z .im) nan (simp length-set l))
+  get-put l = ap as-cell (put-here nan xs k (z .re, z .im) l)
 
   pub get-other : (n : ℕ) → n ≢ k → cell (putCell xs k z) n ≡ cell xs n
-  get-other n ne = ap₂ cx (kept (2 * n) (λ e. omega (arith, ne)) (λ e. omega arith)) (kept (2 * n + 1) (λ e. omega arith) (λ e. omega (arith, ne)))
-    where
-      kept : (w : ℕ) → w ≢ 2 * k → w ≢ 2 * k + 1 → getD (putCell xs k z) w nan ≡ getD xs w nan
-      kept w a b = getD-set-other (set xs (2 * k) (z .re)) (2 * k + 1) w (z .im) nan b ∙ getD-set-other xs (2 * k) w (z .re) nan a
+  get-other n ne = ap as-cell (put-still nan xs k (z .re, z .im) n ne)

@@ -3,5 +3,4 @@ pub mod Flat
 pub mod Scan
 pub mod Signs
 pub mod Squares
-pub mod Words
 pub mod Unique

@@ -1,4 +1,3 @@
 -- The definitions that contracts cite.
 pub mod Complexes
 pub mod Scan
-pub mod Words

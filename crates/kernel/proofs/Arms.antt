@@ -3,9 +3,9 @@
 use Rattle.sequences.proofs.Basics.{_≡_, sym, ap, _∙_, ℕ, _+_, _-_, _*_, _≤_, _<_, mul-one, mul-le-mul-right, suc-mul, arith, Bool, true, false, true≢false}
 use Rattle.sequences.proofs.Basics.{inl, inr, List, length, getD}
 use lib.Ieee.{Float}
+use Rattle.sequences.specs.Lists.{tabulate}
 use Rattle.radices.specs.Lists.{isRadix}
 use Rattle.radices.proofs.Products.{Radix, radix-is}
-use Rattle.schedule.specs.Stage.{tabulate}
 use Rattle.floats.specs.declared.complex.Complex.{Complex}
 use Rattle.floats.specs.Complexes.{blank, cell}
 use Rattle.kernel.specs.Parts.{kernelOf, readOf, outputOf, Sized, Fetched, Fetched4, Wrote, Held, Saved}

@@ -2,8 +2,10 @@
 use Rattle.sequences.proofs.Basics.{_≡_, refl, ap, ap₂, _∙_, ℕ, zero, suc, _+_, _-_, _*_, _/_, _%_, _≤_, _<_, zero-add, arith, Bool, true, false, List, [], _∷_}
 use Rattle.sequences.proofs.Basics.{eqb, getD, digits-lt, ne-eqb}
 use lib.Ieee.{Float}
-use Rattle.schedule.specs.Stage.{tabulate, kernelTurn, twiddledIn, read, total, plain, output}
-use Rattle.schedule.proofs.Cells.{getD-tabulate, read-lt}
+use Rattle.sequences.specs.Lists.{tabulate}
+use Rattle.sequences.proofs.Tables.{getD-tabulate}
+use Rattle.schedule.specs.Stage.{kernelTurn, twiddledIn, read, total, plain, output}
+use Rattle.schedule.proofs.Cells.{read-lt}
 use Rattle.schedule.proofs.Sums as Sums
 use Rattle.turn.specs.Calls.{part}
 use Rattle.turn.specs.Turns.{turnOf}

@@ -2,7 +2,6 @@
 pub mod Widths
 pub mod Places
 pub mod Lanes
-pub mod Words
 pub mod Fill
 pub mod Circle
 pub mod Stage

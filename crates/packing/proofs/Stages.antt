@@ -1,8 +1,10 @@
 -- Laws of filling the stages of an accepted plan one after the other. Assumes nothing.
 use Rattle.sequences.proofs.Basics.{_≡_, refl, sym, ap, ap₂, _∙_, ℕ, zero, suc, _+_, _-_, _*_, _/_, _<_, _≤_, le-of-lt, div-le-self, add-one, arith, true, List}
 use Rattle.sequences.proofs.Basics.{_++_, append-assoc, length, getD, take, drop, length-append, take-at, take-all, length-take-le}
-use lib.Ieee.{Float, nan}
+use lib.Ieee.{Float}
 use borrow.Rule.Slice.PartMut.{midOf, putMid, same-len-mid, mid-len}
+use Rattle.packing.proofs.Fill.{length-packed}
+use Rattle.packing.specs.Places.{packed}
 use Rattle.counts.specs.Counts.{radix, stride, twiddleCount, twiddleStart, stageTwiddles}
 use Rattle.radices.specs.Lists.{product}
 use Rattle.plan.specs.declared.Record.{Record}
@@ -13,10 +15,8 @@ use Rattle.schedule.proofs.Plans.{use-stride, use-radix, use-parts, use-stride-
 use Rattle.turn.specs.Turns.{housed}
 use Rattle.packing.specs.Parts.{Packable, Shape}
 use Rattle.packing.specs.Twiddles.{twiddle, stageWords, stagesWords}
-use Rattle.packing.specs.Words.{packed}
 use Rattle.packing.proofs.Circle.{housed-part}
 use Rattle.packing.proofs.Widths.{width-bounds}
-use Rattle.packing.proofs.Words.{length-packed}
 
 -- the first stage has no words
 pub stages-none : (h : ℕ) (rs us : List ℕ) (W : ℕ) (ys : List Float) → take (2 * twiddleStart h rs 1) ys ≡ stagesWords h us W 1
@@ -97,7 +97,7 @@ module _ (p : Record) (W words : ℕ) (h : Packable p W words) where
       unfolding stagesWords
       stages-next ys part out e done d eo =
           let here : out ≡ putMid (start j) (start (j + 1) - start j) ys part = eo ∙ ap₂ (λ (n m : ℕ). putMid (2 * n) (2 * m - 2 * n) ys part) ea eb in
-          let room : length part ≡ start (j + 1) - start j = ap length d ∙ length-packed nan (p .half / r) r W (twiddle s r) ∙ sym part-long in
+          let room : length part ≡ start (j + 1) - start j = ap length d ∙ length-packed (p .half / r) r W (twiddle s r) ∙ sym part-long in
           let front : length (take (start j) ys) ≡ start j = length-take-le (start j) ys (omega (arith, part-inside, part-up)) in
           let seam : length (take (start j) ys ++ part) ≡ start (j + 1) = omega (arith, length-append (take (start j) ys) part, part-up) in (
             ap length here ∙ same-len-mid (start j) (start (j + 1) - start j) ys part (room

@@ -1,8 +1,11 @@
--- The widths, and where a twiddle stands among those of its stage: M iterations of radix r, packed for width W. Assumes nothing.
+-- The widths, and where a twiddle stands among those of its stage: M iterations of radix r, packed for width W.
+-- Assumes nothing.
 use Prim.Native.Nat.{ℕ, suc, _+_, _-_, _*_, _/_, _%_, _<_, _≤_}
 use mathlib.Core.Path.{_≡_}
 use mathlib.Core.Bool.{Bool, cond, _||_}
+use mathlib.Core.List.{List}
 use lib.Dec.{eqb, ltb}
+use Rattle.sequences.specs.Pairs.{pairs}
 
 -- the widths
 unfoldable pub isWidth : ℕ → Bool
@@ -45,3 +48,7 @@ pub record Found (M r W i k p : ℕ) : Type 0 where
   pub first : 1 ≤ k
   pub last : k < r
   pub here : place M r W i k ≡ p
+
+-- f i k for each of M iterations i and k from 1 to r - 1, packed for width W: at each place the one that stands there
+unfoldable pub packed : {A : Type 0} → (M r W : ℕ) → (ℕ → ℕ → A × A) → List A
+packed M r W f = pairs (M * (r - 1)) 0 (λ p. f (iterationAt M r W p) (numberAt M r W p))

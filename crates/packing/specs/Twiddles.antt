@@ -2,10 +2,10 @@
 use Prim.Native.Nat.{ℕ, zero, suc, _/_}
 use mathlib.Core.List.{List, [], _++_}
 use lib.Ieee.{Float}
+use Rattle.packing.specs.Places.{packed}
 use Rattle.counts.specs.Counts.{radix, stride}
 use Rattle.schedule.specs.Stage.{twiddleTurn}
 use Rattle.turn.specs.Turns.{turnOf, wordsOf}
-use Rattle.packing.specs.Words.{packed}
 
 -- twiddle k of iteration i, in a stage of radix r at stride s: the words of the turn that the schedule states
 unfoldable pub twiddle : (s r i k : ℕ) → Float × Float

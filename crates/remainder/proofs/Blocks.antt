@@ -3,10 +3,10 @@
 use Rattle.sequences.proofs.Basics.{_≡_, refl, sym, _∙_, ℕ, zero, suc, _+_, _*_, _/_, _%_, _^_, _≤_, _<_, zero-add, add-zero, zero-mul, one-mul, mul-zero}
 use Rattle.sequences.proofs.Basics.{mul-one, pow-zero, le-of-lt, le-refl, div-one, div-self, mod-eq-of-lt, lt-of-lt-of-le, div-mul-le-self, arith, List, length}
 use Rattle.sequences.proofs.Basics.{drop, digits-lt, lt-one}
+use Rattle.sequences.proofs.Tables.{getD-tabulate}
 use Rattle.radices.specs.Lists.{product}
 use Rattle.counts.specs.Counts.{stride, radix}
 use Rattle.schedule.specs.Stage.{stageBy, stage, run, plain}
-use Rattle.schedule.proofs.Cells.{getD-tabulate}
 use Rattle.schedule.proofs.Strides.{stride-suc, stride-length, stage-parts}
 use Rattle.remainder.specs.Residues.{residues, cells, sum, transform, blockSum, Blocks}
 use Rattle.remainder.proofs.Step.{stage-blocks}

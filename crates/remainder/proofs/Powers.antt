@@ -1,7 +1,7 @@
 -- Powers modulo m: by halving the exponent, and step by step. Assumes nothing.
 use Rattle.sequences.proofs.Basics.{_≡_, sym, ap, _∙_, subst, ℕ, suc, _+_, _*_, _/_, _%_, _^_, _<_, _≤_, _-_, zero, mul-assoc, mul-comm, mul-right-comm, mod-lt}
-use Rattle.sequences.proofs.Basics.{pow-zero, pow-suc, mod-eq-of-lt, mul-le-mul, add-one, arith, ℕ-discrete, List, length, getD, set, getD-set-same}
-use Rattle.sequences.proofs.Basics.{getD-set-other, pow-add}
+use Rattle.sequences.proofs.Basics.{pow-zero, pow-suc, mod-eq-of-lt, mul-le-mul, add-one, arith, List, length, getD, set, pow-add}
+use Rattle.sequences.proofs.Tables.{set-more}
 use Rattle.remainder.proofs.Sums.{mod-mul}
 
 pub mul-mod : (a b m : ℕ) → a * (b % m) % m ≡ a * b % m
@@ -62,12 +62,5 @@ module _ (m v : ℕ) (two : 1 < m) where
   known-one xs e (suc k) h = absurd (omega arith)
 
   pub known-next : (xs : List ℕ) (t : ℕ) → 1 ≤ t → t < length xs → Known m v xs t → Known m v (set xs t (getD xs (t - 1) 0 * v % m)) (t + 1)
-  known-next xs t h l f k lk = pick (ℕ-discrete k t)
-    where
-      y : ℕ
-      y = getD xs (t - 1) 0 * v % m
-
-      pick : Dec (k ≡ t) → getD (set xs t y) k 0 ≡ v ^ k % m
-      pick (yes e) = rw e (getD-set-same xs t y 0 l ∙ next-power v m (t - 1) (getD xs (t - 1) 0) (f (t - 1) (omega arith))
-          ∙ ap (λ (n : ℕ). v ^ n % m) {x = t - 1 + 1} {y = t} (omega arith))
-      pick (no e) = getD-set-other xs t k y 0 e ∙ f k (omega arith)
+  known-next xs t h l f = set-more (λ k. v ^ k % m) xs t (getD xs (t - 1) 0 * v % m) 0 l
+      (next-power v m (t - 1) (getD xs (t - 1) 0) (f (t - 1) (omega arith)) ∙ ap (λ (n : ℕ). v ^ n % m) {x = t - 1 + 1} {y = t} (omega arith)) f

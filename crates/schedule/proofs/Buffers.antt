@@ -1,6 +1,6 @@
 -- Laws of two buffers written alternately: where the last stage's cells are. Assumes nothing.
-use Rattle.sequences.proofs.Basics.{_≡_, refl, sym, ap, _∙_, ℕ, zero, suc, _+_, _%_, _<_, _≤_, add-one, arith, ℕ-discrete, Bool, true, false, not, _||_, List}
-use Rattle.sequences.proofs.Basics.{eqb, length, getD, set, getD-set-same, getD-set-other, ext-getD, eq-eqb, ne-eqb, eqb-true, eqb-false}
+use Rattle.sequences.proofs.Basics.{_≡_, refl, sym, ap, _∙_, ℕ, zero, suc, _+_, _%_, _<_, add-one, arith, Bool, true, false, not, _||_, List, eqb, length}
+use Rattle.sequences.proofs.Basics.{eq-eqb, ne-eqb, eqb-true, eqb-false}
 use Rattle.counts.specs.Counts.{bufferBy}
 use Rattle.schedule.specs.Stage.{Kernel, Arith, stage, run}
 use Rattle.schedule.specs.Buffers.{Two, across, alternated, copiedBy, driven, heldIn}
@@ -122,19 +122,3 @@ module _ {A : Type 0} (f g : ℕ → List A → List A) (b : Two A) where
   pub driven-same : (count : ℕ) → ((j : ℕ) → j < count → (xs : List A) → f j xs ≡ g j xs) → driven f count b ≡ driven g count b
   unfolding driven
   driven-same count e = ap (copiedBy (eqb count 1)) (alternated-same count e)
-
--- ---- copying, cell by cell
-
--- the first n cells are copied
-abbrev pub Copied : {A : Type 0} → A → List A → List A → ℕ → Type 0
-Copied d xs ys n = (q : ℕ) → q < n → getD ys q d ≡ getD xs q d
-
-pub copied-next : {A : Type 0} (d : A) (xs ys : List A) (n : ℕ) → n < length ys → Copied d xs ys n → Copied d xs (set ys n (getD xs n d)) (n + 1)
-copied-next d xs ys n l f q lq = pick (ℕ-discrete q n)
-  where
-    pick : Dec (q ≡ n) → getD (set ys n (getD xs n d)) q d ≡ getD xs q d
-    pick (yes e) = rw e (getD-set-same ys n (getD xs n d) d l)
-    pick (no e) = getD-set-other ys n q (getD xs n d) d e ∙ f q (omega arith)
-
-pub copied-all : {A : Type 0} (d : A) (xs ys : List A) (n : ℕ) → length ys ≡ length xs → length xs ≤ n → Copied d xs ys n → ys ≡ xs
-copied-all d xs ys n e l f = ext-getD d ys xs e (λ q lq. f q (omega (arith, e)))

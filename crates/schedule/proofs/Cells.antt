@@ -1,29 +1,10 @@
 -- Where a stage reads and writes, for any arithmetic.
 -- Assumes nothing.
-use Rattle.sequences.proofs.Basics.{_≡_, refl, ap, ap₂, _∙_, ℕ, zero, suc, _+_, _*_, _/_, _%_, _<_, zero-add, add-zero, add-suc, suc-add, zero-mul, mul-comm}
-use Rattle.sequences.proofs.Basics.{zero-lt-suc, le-of-suc-le-suc, not-suc-le-zero, mod-lt, div-add-mod', div-lt-iff-lt-mul, mul-add-mod-self-right}
-use Rattle.sequences.proofs.Basics.{mod-mod-of-dvd, dvd-mul-right, mul-pos, mul-div-le, div-eq-of-eq-mul-left, arith, List, _∷_, length, getD, digits-div}
-use Rattle.sequences.proofs.Basics.{digits-mod, digits-lt}
-use Rattle.schedule.specs.Stage.{Kernel, Arith, index, iteration, place, tabulate, output, stageBy}
-
-pub length-tabulate {ℓ} : {A : Type ℓ} (n i : ℕ) (f : ℕ → A) → length (tabulate n i f) ≡ n
-unfolding tabulate
-length-tabulate zero i f = refl
-length-tabulate (suc n) i f = ap suc (length-tabulate n (suc i) f)
-
--- the same at each place, the same list
-pub tabulate-same : {A : Type 0} (k n : ℕ) (f g : ℕ → A) → ((i : ℕ) → i < k → f (n + i) ≡ g (n + i)) → tabulate k n f ≡ tabulate k n g
-unfolding tabulate
-tabulate-same zero n f g e = refl
-tabulate-same (suc k) n f g e =
-    let here : n + 0 ≡ n = omega arith in
-    ap₂ (λ x xs. x ∷ xs) (rw here at (e 0 (omega arith))) (tabulate-same k (suc n) f g (λ i l. rw (suc-add, ← add-suc) (e (suc i) (omega arith))))
-
-pub getD-tabulate {ℓ} : {A : Type ℓ} (n i : ℕ) (f : ℕ → A) (j : ℕ) (d : A) → j < n → getD (tabulate n i f) j d ≡ f (i + j)
-unfolding tabulate
-getD-tabulate zero i f j d l = absurd (not-suc-le-zero l)
-getD-tabulate (suc n) i f zero d l = rw add-zero
-getD-tabulate (suc n) i f (suc j) d l = rw (add-suc, ← suc-add) (getD-tabulate n (suc i) f j d (le-of-suc-le-suc l))
+use Rattle.sequences.proofs.Basics.{_≡_, ap, _∙_, ℕ, zero, suc, _+_, _*_, _/_, _%_, _<_, zero-add, zero-mul, mul-comm, zero-lt-suc, not-suc-le-zero, mod-lt}
+use Rattle.sequences.proofs.Basics.{div-add-mod', div-lt-iff-lt-mul, mul-add-mod-self-right, mod-mod-of-dvd, dvd-mul-right, mul-pos, mul-div-le}
+use Rattle.sequences.proofs.Basics.{div-eq-of-eq-mul-left, arith, List, length, getD, digits-div, digits-mod, digits-lt}
+use Rattle.sequences.proofs.Tables.{length-tabulate, getD-tabulate}
+use Rattle.schedule.specs.Stage.{Kernel, Arith, index, iteration, place, output, stageBy}
 
 pub pos-left : (a b : ℕ) → 0 < a * b → 0 < a
 pos-left zero b l = absurd (not-suc-le-zero (rw zero-mul at l))

@@ -1,10 +1,11 @@
 -- How loops fill a stage's cells, for any arithmetic: one cell after the other, the outputs of more iterations, and at the end the stage.
 -- Assumes nothing.
-use Rattle.sequences.proofs.Basics.{_≡_, refl, sym, ap, _∙_, ℕ, _+_, _-_, _*_, _/_, _%_, _≤_, _<_, zero-add, div-add-mod', arith, ℕ-discrete, decLe, _⊎_, inl}
-use Rattle.sequences.proofs.Basics.{inr, List, length, getD, set, getD-set-same, getD-set-other, ext-getD, digits-div, digits-mod}
+use Rattle.sequences.proofs.Basics.{_≡_, refl, sym, ap, _∙_, ℕ, _+_, _-_, _*_, _/_, _%_, _≤_, _<_, div-add-mod', arith, ℕ-discrete, decLe, _⊎_, inl, inr, List}
+use Rattle.sequences.proofs.Basics.{length, getD, digits-div, digits-mod}
+use Rattle.sequences.proofs.Tables.{table-all}
 use Rattle.schedule.specs.Stage.{Kernel, Arith, index, iteration, place, output, stageBy}
 use Rattle.schedule.specs.Parts.{Wrote, Every, Done}
-use Rattle.schedule.proofs.Cells.{iteration-index, place-index, iteration-lt, place-lt, index-of-cell, length-tabulate, getD-tabulate}
+use Rattle.schedule.proofs.Cells.{iteration-index, place-index, iteration-lt, place-lt, index-of-cell}
 
 -- ---- cell after cell
 
@@ -65,15 +66,6 @@ every-end b n r e l m = wrote-told (λ t x. (omega (arith, x .1), x .1)) (λ t x
 
 pub every-none : {A : Type 0} {at : ℕ → ℕ} {g c : ℕ → A} (b : ℕ) → b < 2 → Wrote (Every b b) at g c c
 every-none b l = wrote-none (λ t x. omega (arith, x .1))
-
--- one more element of a list as it should be
-pub set-more : {A : Type 0} (f : ℕ → A) (xs : List A) (n : ℕ) (v d : A) → n < length xs → v ≡ f n → ((k : ℕ) → k < n → getD xs k d ≡ f k)
-    → (k : ℕ) → k < n + 1 → getD (set xs n v) k d ≡ f k
-set-more f xs n v d l e before k lk = pick (ℕ-discrete k n)
-  where
-    pick : Dec (k ≡ n) → getD (set xs n v) k d ≡ f k
-    pick (yes s) = rw s (getD-set-same xs n v d l ∙ e)
-    pick (no s) = getD-set-other xs n k v d s ∙ before k (omega (arith, s))
 
 -- ---- more outputs in their cells
 
@@ -143,7 +135,5 @@ module _ {A : Type 0} (s r : ℕ) (v : ℕ → ℕ → A) (i n : ℕ) where
 pub done-stage : {A : Type 0} (kernel : Kernel A) (a : Arith A) (j h n s r : ℕ) → h ≡ n * (s * r) → 0 < s → 0 < r → (xs ys : List A) → length ys ≡ h
     → Done s r (output kernel a j (h / r) s r (λ q. getD xs q (a .blank))) (λ k. getD ys k (a .blank)) (λ i p. i < h / r) → ys ≡ stageBy kernel a j h s r xs
 unfolding stageBy
-done-stage kernel a j h n s r parts ps pr xs ys len done = ext-getD (a .blank) ys _ (len ∙ sym (length-tabulate h 0 _)) (λ k l.
-    let lk : k < h = rw len at l in
-    rw (index-of-cell s r k ps pr) at (done (iteration s r k) (place s r k) (iteration-lt s r k ps pr h n parts lk) (place-lt s r k ps pr))
-    ∙ sym (getD-tabulate h 0 _ k (a .blank) lk ∙ rw zero-add))
+done-stage kernel a j h n s r parts ps pr xs ys len done = table-all _ ys h (a .blank) len (λ k l.
+    rw (index-of-cell s r k ps pr) at (done (iteration s r k) (place s r k) (iteration-lt s r k ps pr h n parts l) (place-lt s r k ps pr)))

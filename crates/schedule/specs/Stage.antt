@@ -2,8 +2,9 @@
 -- h cells; r the stage's radix; s its stride, the product of the radices before it. A stage makes h / r iterations of r outputs each.
 -- Assumes nothing.
 use Prim.Native.Nat.{ℕ, zero, suc, _+_, _-_, _*_, _/_, _%_}
-use mathlib.Core.List.{List, [], _∷_}
+use mathlib.Core.List.{List}
 use lib.ListN.{getD}
+use Rattle.sequences.specs.Lists.{tabulate}
 use Rattle.counts.specs.Counts.{radix, stride}
 
 -- ---- which turn stands where
@@ -48,11 +49,6 @@ pub record Arith (A : Type 0) : Type 0 where
 -- From the cells that an iteration reads, numbered from 0, to its outputs: by an arithmetic, for each radix.
 abbrev pub Kernel : Type 0 → Type 0
 Kernel A = Arith A → (r : ℕ) → (ℕ → A) → ℕ → A
-
--- f n, f (n + 1), ..: k cells
-unfoldable pub tabulate {ℓ} : {A : Type ℓ} → (k n : ℕ) → (ℕ → A) → List A
-tabulate zero n f = []
-tabulate (suc k) n f = f n ∷ tabulate k (suc n) f
 
 module _ {A : Type 0} where
   -- the first stage has no twiddles

@@ -1,7 +1,7 @@
 -- A wrong program that the promise of `forward` shuts out: one spectrum for everything, at n = 2. Assumes nothing.
 use Rattle.sequences.proofs.Basics.{_≡_, refl, sym, ap, _∙_, ℕ, arith, Bool, true, false, List, [], _∷_, eqb, getD}
 use lib.Ieee.{Float, nan, inf, fin, ofBits, add}
-use Rattle.sequences.specs.Lists.{firstThat}
+use Rattle.sequences.specs.Lists.{firstThat, tabulate}
 use Rattle.refusal.specs.declared.Verdict.{Verdict}
 use Rattle.refusal.specs.declared.Verdict.the-variants.{Accepted}
 use Rattle.refusal.proofs.Rows.{settled}
@@ -11,7 +11,6 @@ use Rattle.merging.specs.Merging.{tally, sorted}
 use Rattle.plan.specs.Record.{isPlanned, inOrder, sized}
 use Rattle.plan.specs.declared.Record.{Record}
 use Rattle.schedule.specs.Buffers.{alternated, driven}
-use Rattle.schedule.specs.Stage.{tabulate}
 use Rattle.turn.specs.Turns.{+0, +1}
 use Rattle.packing.specs.Places.{isWidth}
 use Rattle.floats.specs.Complexes.{flat}

@@ -2,6 +2,7 @@
 use Rattle.sequences.proofs.Basics.{_≡_, refl, sym, ap, ap₂, _∙_, ℕ, zero, suc, _+_, _-_, _*_, _/_, _%_, _≤_, _<_, le-of-lt, arith, Bool, true, false, List}
 use Rattle.sequences.proofs.Basics.{eqb, length, getD, drop, getD-take, getD-drop, eqb-true}
 use lib.Ieee.{Float, nan}
+use Rattle.sequences.proofs.Tables.{tabulate-same}
 use Rattle.counts.specs.Counts.{radix, stride, twiddleCount, twiddleStart, resultIn}
 use Rattle.radices.specs.Lists.{product}
 use Rattle.plan.specs.Record.{isPlanned}
@@ -11,7 +12,7 @@ use Rattle.schedule.specs.Buffers.{Two, across, alternated, driven, heldIn}
 use Rattle.schedule.specs.Plans.{inUse}
 use Rattle.schedule.specs.Stage.{twiddleTurn, iteration, place as placeOf, twiddledIn, read, plain, output, stageBy, stage, run}
 use Rattle.schedule.proofs.Buffers.{sourceBy, source-run, held}
-use Rattle.schedule.proofs.Cells.{iteration-lt, tabulate-same}
+use Rattle.schedule.proofs.Cells.{iteration-lt}
 use Rattle.schedule.proofs.Sums.{total-same, plain-same}
 use Rattle.schedule.proofs.Plans.{use-parts, use-radix, use-radix-some, use-stride-some}
 use Rattle.packing.specs.Places.{place}

@@ -1,9 +1,9 @@
 -- Laws of a scratch: its Data, its Scratchpad and the rest, what replaces them, and what the stages leave. Assumes nothing.
-use Rattle.sequences.proofs.Basics.{_≡_, refl, sym, ap, ap₂, _∙_, ℕ, _+_, _-_, _*_, _≤_, _<_, arith, Bool, true, false, cond, List, _++_, append-assoc}
-use Rattle.sequences.proofs.Basics.{append-nil, ltb, length, take, drop, length-append, length-drop, take-append-drop, drop-of-length-le, length-take-le}
-use Rattle.sequences.proofs.Basics.{length-front, take-at, drop-at, drop-drop, drop-append-le, take-append-le, ltb-true, ltb-false}
-use borrow.Rule.Slice.PartMut.{putMid}
+use Rattle.sequences.proofs.Basics.{_≡_, refl, sym, ap, ap₂, _∙_, ℕ, _+_, _-_, _*_, _≤_, _<_, arith, Bool, true, false, cond, List, _++_, append-assoc, ltb}
+use Rattle.sequences.proofs.Basics.{length, take, drop, length-append, length-drop, take-append-drop, length-take-le, length-front, take-at, drop-at, drop-drop}
+use Rattle.sequences.proofs.Basics.{drop-append-le, take-append-le, ltb-true, ltb-false}
 use lib.Ieee.{Float}
+use Rattle.sequences.specs.Lists.{pasted}
 use Rattle.counts.specs.declared.Buffer.{Buffer}
 use Rattle.counts.specs.declared.Buffer.the-variants.{Data, Scratchpad}
 use Rattle.plan.specs.declared.Record.{Record}
@@ -11,7 +11,6 @@ use Rattle.schedule.specs.Buffers.{Two, driven, heldIn}
 use Rattle.schedule.proofs.Buffers.{driven-none, driven-long, driven-pad}
 use Rattle.stage.specs.Runs.{ownOf, stageIn, runOf}
 use Rattle.stage.proofs.Runs.{length-made}
-use Rattle.floats.specs.Words.{pasted}
 use Rattle.transform.specs.Transforms.{dataOf, padOf, withBoth}
 
 -- the first words replaced by as many, the row is as long as it was
@@ -103,16 +102,6 @@ pub pad-pasted : (h : ℕ) (e s : List Float) → length e ≡ 2 * h → pasted 
 pad-pasted h e s le =
     let twice : 2 * h + length e ≡ 4 * h = omega arith in
     rw twice refl
-
--- all words from n on replaced
-pub tail-replaced : (n : ℕ) (z o : List Float) → n ≤ length o → putMid n (length o - n) o z ≡ take n o ++ z
-tail-replaced n z o l =
-    let all : length o ≤ n + (length o - n) = omega arith in
-    ap (λ (r : List Float). take n o ++ (z ++ r)) (drop-drop (length o - n) n o ∙ drop-of-length-le o all)
-    ∙ ap (λ (r : List Float). take n o ++ r) (append-nil z)
-
-pub tail-length : (n : ℕ) (o : List Float) → length (take (length o - n) (drop n o)) ≡ length o - n
-tail-length n o = length-take-le (length o - n) (drop n o) (omega (arith, length-drop n o))
 
 -- a scratch is its Data, its Scratchpad and the rest
 pub parted : (h : ℕ) (s : List Float) → withBoth h (dataOf h s, padOf h s) s ≡ s

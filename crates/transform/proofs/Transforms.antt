@@ -4,6 +4,8 @@ use Rattle.sequences.proofs.Basics.{append-assoc, eqb, ltb, length, take, drop,
 use Rattle.sequences.proofs.Basics.{drop-append-le, take-append-le, eqb-true, lt-ltb}
 use borrow.Rule.Slice.PartMut.{putMid}
 use lib.Ieee.{Float}
+use Rattle.sequences.specs.Lists.{pasted}
+use Rattle.sequences.proofs.Pasted.{front-pasted, tail-replaced, tail-length}
 use Rattle.counts.specs.Counts.{resultIn, bufferNumber, endCount}
 use Rattle.plan.specs.Record.{isPlanned}
 use Rattle.counts.specs.declared.Buffer.{Buffer}
@@ -13,14 +15,12 @@ use Rattle.plan.proofs.Bounds.{plan-half, plan-sized}
 use Rattle.schedule.specs.Buffers.{Two, heldIn}
 use Rattle.stage.specs.Runs.{runOf}
 use Rattle.ends.specs.Ends.{ifftSteps, postprocess-fft, preprocess-ifft, conjugated, zeros}
-use Rattle.floats.specs.Words.{pasted}
-use Rattle.floats.proofs.Words.{front-pasted}
 use Rattle.ends.specs.Parts.{prepared, Endable}
 use Rattle.ends.proofs.Cells.{length-ended, length-conjugated}
 use Rattle.ends.proofs.Prepared.{prepared-is}
 use Rattle.transform.specs.Transforms.{dataOf, padOf, withBoth, forwardRun, forwardOf, preparedOf, inverseRun, restored, inverseOf}
-use Rattle.transform.proofs.Scratch.{data-length, pad-length, data-replaced, tail-replaced, tail-length, front-data, front-drop, front-pad, front-rest}
-use Rattle.transform.proofs.Scratch.{both-pasted, both-data, both-pad, both-rest, run-long, within-beside}
+use Rattle.transform.proofs.Scratch.{data-length, pad-length, data-replaced, front-data, front-drop, front-pad, front-rest, both-pasted, both-data}
+use Rattle.transform.proofs.Scratch.{both-pad, both-rest, run-long, within-beside}
 
 -- a result is one of two buffers of a length
 pub held-long : (n : ℕ) (which : Buffer) (b : Two Float) → length (b .0) ≡ n → length (b .1) ≡ n → length (heldIn which b) ≡ n

@@ -2,6 +2,8 @@
 -- That two outcomes of a call are equal is `Fills-one` of proofs/Unique.antt. Assumes nothing.
 use Rattle.sequences.proofs.Basics.{_≡_, sym, ap, _∙_, ℕ, _+_, _-_, _*_, _/_, _<_, _≤_, le-of-lt, arith, true, false, length, getD}
 use lib.Ieee.{Float}
+use Rattle.sequences.specs.Pairs.{At}
+use Rattle.sequences.proofs.Pairs.{told, at-same, pairs-at}
 use Rattle.refusal.specs.Refusal.{left}
 use Rattle.refusal.specs.declared.Refusal.{Refusal}
 use Rattle.refusal.specs.declared.Verdict.{Verdict}
@@ -17,11 +19,9 @@ use Rattle.turn.proofs.Index.{index-below}
 use Rattle.turn.proofs.Theorems.{other-turns}
 use Rattle.packing.specs.Places.{place, iterationAt, numberAt, Stands, Found}
 use Rattle.packing.specs.Twiddles.{twiddle}
-use Rattle.packing.specs.Words.{At}
 use Rattle.packing.proofs.Places.{stands, found}
 use Rattle.packing.proofs.Standing.{twiddle-at, use-start}
 use Rattle.packing.proofs.Widths.{width-bounds}
-use Rattle.packing.proofs.Words.{at-same, pairs-at}
 use Rattle.end_twiddles.specs.Ends.{directed, endTwiddle, endWords}
 use Rattle.end_twiddles.specs.declared.inner.ends.Direction.{Direction}
 use Rattle.end_twiddles.proofs.Ends.{end-inside, end-quarter}
@@ -56,15 +56,15 @@ module _ (d : Direction) (p : Record) (W : ℕ) (before : Slices) (r : Verdict) 
       → At z (after .0) (twiddleStart (p .half) (p .radices) j + place (p .half / radix (inUse p) j) (radix (inUse p) j) W i k)
       (wordsOf (turnOf (twiddleTurn (stride (inUse p) j) (radix (inUse p) j) i k)))
   unfolding twiddle
-  filled-twiddle z j i k later known li first last = rw (leaves, ← use-start p j (le-of-lt known))
-      (twiddle-at z (p .half) (inUse p) W (p .count) j i k (width-bounds W (tells .width) .0) later known li first last)
+  filled-twiddle z j i k later known li first last = rw (leaves, ← use-start p j (le-of-lt known)) (told z _ _ _
+      (twiddle-at z (p .half) (inUse p) W (p .count) j i k (width-bounds W (tells .width) .0) later known li first last))
 
   -- end twiddle k stands at place k - 1
   pub filled-end : (z : Float) (k : ℕ) → 1 ≤ k → k ≤ endCount (p .n) → At z (after .1) (k - 1) (directed d (wordsOf (turnOf (part k (p .n)))))
   unfolding endWords endTwiddle
   filled-end z k first last =
       let same : 1 + (k - 1) ≡ k = omega arith in
-      rw leaves (rw same at (pairs-at z (endCount (p .n)) 1 (endTwiddle d (p .n)) (k - 1) (omega arith)))
+      rw leaves (told z _ _ _ (rw same at (pairs-at z (endCount (p .n)) 1 (endTwiddle d (p .n)) (k - 1) (omega arith))))
 
 -- the words of a twiddle are the same at every width, and in both directions
 module _ (c d : Direction) (p : Record) (W W′ : ℕ) (xs ys xs′ ys′ : Slices) (r s : Verdict) (one : Fills c p W xs r xs′) (two : Fills d p W′ ys s ys′)

@@ -2,7 +2,7 @@
 ghost use mathlib.Core.Path.{_≡_};
 ghost use Prim.Native.Nat.{_+_, _≤_};
 ghost use lib.ListN.{length};
-ghost use Rattle.floats.specs.Words.{pasted};
+ghost use Rattle.sequences.specs.Lists.{pasted};
 
 // Every word of src, into dst from `at` on.
 pub fn paste(src: &[f32], dst: &mut [f32], at: usize)

@@ -10,11 +10,9 @@ ghost use Prim.Native.Nat.{ℕ, _*_};
 ghost use lib.ListN.{length};
 ghost use Rattle.schedule.specs.Plans.{inUse};
 ghost use Rattle.turn.specs.Calls.{House};
-ghost use Rattle.turn.specs.Turns.{turnAt, wordsOf};
-ghost use Rattle.packing.specs.Places.{inLanes};
-ghost use Rattle.packing.specs.Words.{packed, putPairs};
+ghost use Rattle.packing.specs.Places.{inLanes, packed};
 ghost use Rattle.packing.specs.Twiddles.{twiddle, stagesWords};
-ghost use Rattle.packing.specs.Parts.{Laned, Lanes, Turnable, Shape, Packable};
+ghost use Rattle.packing.specs.Parts.{Laned, Lanes, Turnable, Turned, Shape, Packable};
 
 // The column of an iteration, and where its twiddles stand: the first of them, and how many places apart.
 pub struct Lane {
@@ -55,7 +53,7 @@ fn iteration(
     out: &mut [f32],
 )
     requires { ⌜ House (now cosines) (now sines) × Turnable turn each first apart (length (now out)) ⌝ }
-    ensures { λ _. ⌜ now (out .exit) ≡ putPairs first apart (λ k. wordsOf (turnAt (k * turn))) (now (out .entry)) each ⌝ }
+    ensures { λ _. ⌜ Turned turn first apart each (now (out .entry)) (now (out .exit)) ⌝ }
 {
     let mut index: usize = 0;
     let mut place = first;

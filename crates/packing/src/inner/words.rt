@@ -3,7 +3,7 @@ use turn::inner::words::Words;
 ghost use mathlib.Core.Path.{_≡_};
 ghost use Prim.Native.Nat.{_+_, _*_, _<_};
 ghost use lib.ListN.{length};
-ghost use Rattle.packing.specs.Words.{putPair};
+ghost use Rattle.sequences.specs.Pairs.{putPair};
 
 // A twiddle written at a place.
 pub fn put(out: &mut [f32], place: usize, w: Words)

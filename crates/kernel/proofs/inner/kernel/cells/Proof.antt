@@ -1,6 +1,6 @@
 -- `kernel::inner::kernel::cells` meets its contract. Assumes nothing.
 use Rattle.sequences.proofs.Basics.{_≡_, refl, _∙_, ℕ, _+_, _-_, _*_, _≤_, _<_, arith, false, ⊎-elim, getD, length, length-set, needs}
-use Rattle.schedule.proofs.Fill.{set-more}
+use Rattle.sequences.proofs.Tables.{set-more}
 use Rattle.floats.specs.declared.complex.Complex.{Complex}
 use Rattle.floats.specs.Complexes.{blank, cell}
 use Rattle.kernel.specs.Parts.{readOf}

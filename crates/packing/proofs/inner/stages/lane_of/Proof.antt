@@ -15,7 +15,7 @@ lane-of-spec = fn.Tie.close
       mod-lt (c1 .args .i) (c1 .pre .lane),
     )) (λ c. let a = c .before .args in
     λ m e.
-    record { column = refl; stands = λ k. lane-apart m (a .r) (a .width) (a .i) (a .whole) e k (c .if1 .taken); near = c .before .pre .narrow })
+    record { column = refl; stands = λ k. lane-apart m (a .r) (a .width) (a .i) (a .whole) e k (c .if1 .taken); some = c .before .pre .lane; near = c .before .pre .narrow })
     (λ c. omega (arith, lone-small (c .before .args .i) (c .before .args .r) (c .before .pre .early) (c .before .pre .eight)))
     (λ c. let a = c .before .args in
-    λ m e. record { column = refl; stands = λ k. lone-apart m (a .r) (a .width) (a .i) (a .whole) e k (c .if1 .left); near = omega arith }))
+    λ m e. record { column = refl; stands = λ k. lone-apart m (a .r) (a .width) (a .i) (a .whole) e k (c .if1 .left); some = omega arith; near = omega arith }))

@@ -1,10 +1,10 @@
 -- `remainder::inner::drive::copy` meets its contract. Assumes nothing.
-use Rattle.sequences.proofs.Basics.{_≡_, sym, _∙_, _-_, _≤_, arith, length, length-set, getD, needs}
-use Rattle.schedule.proofs.Buffers.{Copied, copied-next, copied-all}
+use Rattle.sequences.proofs.Basics.{_≡_, sym, _∙_, _-_, _≤_, arith, length, length-set, getD, needs, refl, _<_, ℕ, ext-getD}
+use Rattle.sequences.proofs.Tables.{set-more}
 use Rattle.remainder.proofs.inner.drive.copy as fn
 
 abbrev Inv-loop : fn.Tie.InvT-loop
-Inv-loop src dst₀ i₀ dst i = (length dst ≡ length src) × ((i ≤ length src) × Copied 0 src dst i)
+Inv-loop src dst₀ i₀ dst i = (length dst ≡ length src) × ((i ≤ length src) × ((q : ℕ) → q < i → getD dst q 0 ≡ getD src q 0))
 
 abbrev μ-loop : fn.Tie.MeasureT-loop
 μ-loop src dst₀ i₀ dst i = length src - i
@@ -15,8 +15,7 @@ loop-again c =
       length-set (l .dst) (l .i) (getD (a .src .now) (l .i) 0) ∙ l .inv .0,
       (
         omega (arith, c .before .loop-test .taken),
-        copied-next 0 (a .src .now) (l .dst) (l .i) (omega (arith, c .before .loop-test .taken, l .inv .0))
-            (l .inv .1 .1),
+        set-more (λ q. getD (a .src .now) q 0) (l .dst) (l .i) _ 0 (omega (arith, c .before .loop-test .taken, l .inv .0)) refl (l .inv .1 .1),
       ),
     )
 
@@ -25,4 +24,4 @@ copy-spec = fn.Tie.close (fn.Tie.spec Inv-loop μ-loop (λ c. (c .pre, (omega ar
     (λ c. search needs) (λ c. search needs) (λ c. search needs) (λ c. search needs) (λ c. search needs) (λ c. search needs) loop-again
     (λ c. c .before .loop .inv .0 ∙ sym (c .before .before .pre))
     (λ c. let a = c .before .before .args in let l = c .before .loop in
-    copied-all 0 (a .src .now) (l .dst) (l .i) (l .inv .0) (c .loop-test .left) (l .inv .1 .1)))
+    ext-getD 0 (l .dst) (a .src .now) (l .inv .0) (λ q lq. l .inv .1 .1 q (omega (arith, c .loop-test .left, l .inv .0)))))

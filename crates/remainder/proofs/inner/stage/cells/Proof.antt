@@ -1,9 +1,9 @@
 -- `remainder::inner::stage::cells` meets its contract. Assumes nothing.
 use Rattle.sequences.proofs.Basics.{_≡_, refl, ℕ, _+_, _-_, _*_, _%_, _^_, _≤_, _<_, arith, getD, length, length-set, needs}
+use Rattle.sequences.proofs.Tables.{set-more}
 use Rattle.remainder.specs.Parts.{readOf}
 use Rattle.remainder.proofs.Iteration.{power-one, read-first, read-scaled}
 use Rattle.remainder.proofs.Powers.{next-power, below-mod, product-fits}
-use Rattle.schedule.proofs.Fill.{set-more}
 use Rattle.remainder.proofs.inner.stage.cells as fn
 
 abbrev Inv-loop : fn.Tie.InvT-loop

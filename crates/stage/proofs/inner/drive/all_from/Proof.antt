@@ -1,9 +1,9 @@
 -- `stage::inner::drive::all_from` meets its contract. Assumes nothing.
 use Rattle.sequences.proofs.Basics.{_≡_, ap, _∙_, arith, ⊎-elim, length, needs}
 use lib.Ieee.{Float}
+use Rattle.sequences.proofs.Pasted.{whole-pasted}
 use Rattle.counts.proofs.Counts.{start-none}
 use Rattle.schedule.specs.Buffers.{Two}
-use Rattle.floats.proofs.Words.{whole-pasted}
 use Rattle.stage.specs.Runs.{stageIn, runOf}
 use Rattle.stage.proofs.Runs.{drivable-as, steppable, gone-none}
 use Rattle.stage.proofs.inner.drive.all_from as fn

@@ -1,8 +1,8 @@
 -- `stage::inner::drive::later` meets its contract. Assumes nothing.
 use Rattle.sequences.proofs.Basics.{_≡_, sym, ap, _∙_, _+_, _-_, _*_, _≤_, _<_, le-of-lt, arith, ⊎-elim, length, needs}
+use Rattle.sequences.proofs.Pasted.{whole-pasted}
 use Rattle.counts.specs.Counts.{twiddleStart}
 use Rattle.counts.proofs.Counts.{count-small, start-next, start-none, start-few}
-use Rattle.floats.proofs.Words.{whole-pasted}
 use Rattle.stage.specs.Runs.{stageIn}
 use Rattle.stage.proofs.Runs.{steppable, length-made, Going, going-first, going-even, going-odd, gone-one, gone-all}
 use Rattle.stage.proofs.inner.drive.later as fn
