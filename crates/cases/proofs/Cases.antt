@@ -29,8 +29,8 @@ use Rattle.spectrum.specs.Calls.{forwardVerdict, inverseVerdict, lentVerdict}
 use Rattle.power.specs.Power.{powerFrom, powerVerdict, summed}
 use Rattle.transform.specs.Transforms.{Slices, forwardRun, forwardOf, preparedOf, inverseRun, inverseOf}
 use Rattle.power.specs.declared.Summed.{Summed}
-use Rattle.remainder.specs.Calls.{firstLarge, runVerdict, runOf}
-use Rattle.remainder.specs.Residues.{turn, residues}
+use Rattle.remainder.specs.Calls.{firstLarge, runVerdict}
+use Rattle.residues.specs.Residues.{turn, residues, runOf}
 use Rattle.cases.specs.Cases.{table, Gives, Sums, Refuses, Transforms, Holds, All}
 
 -- the plan of a list by definition

@@ -28,7 +28,7 @@ use Rattle.power.specs.Power.{Powers}
 use Rattle.transform.specs.Transforms.{Slices}
 use Rattle.power.specs.declared.Summed.{Summed}
 use Rattle.remainder.specs.Calls.{Runs}
-use Rattle.remainder.specs.Residues.{residues}
+use Rattle.residues.specs.Residues.{residues}
 
 -- ---- the table
 

@@ -19,7 +19,8 @@ use Rattle.spectrum.specs.Calls.{forwardVerdict, inverseVerdict}
 use Rattle.power.specs.Power.{powerFrom, powerVerdict, summed}
 use Rattle.transform.specs.Transforms.{forwardOf, inverseOf, Slices as Buffers}
 use Rattle.power.specs.declared.Summed.{Summed as Sum}
-use Rattle.remainder.specs.Calls.{stageVerdict, stageOf, runVerdict, runOf}
+use Rattle.residues.specs.Residues.{stageOf, runOf}
+use Rattle.remainder.specs.Calls.{stageVerdict, runVerdict}
 use Rattle.ladlespindle.specs.declared.Answer.{Answer}
 use Rattle.ladlespindle.specs.declared.Summed.{Summed}
 use Rattle.ladlespindle.specs.declared.Ran.{Ran}

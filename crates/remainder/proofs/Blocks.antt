@@ -8,7 +8,8 @@ use Rattle.radices.specs.Lists.{product}
 use Rattle.counts.specs.Counts.{stride, radix}
 use Rattle.schedule.specs.Stage.{stageBy, stage, run, plain}
 use Rattle.schedule.proofs.Strides.{stride-suc, stride-length, stage-parts}
-use Rattle.remainder.specs.Residues.{residues, cells, sum, transform, blockSum, Blocks}
+use Rattle.residues.specs.Residues.{residues, cells}
+use Rattle.remainder.specs.Sums.{sum, transform, blockSum, Blocks}
 use Rattle.remainder.proofs.Step.{stage-blocks}
 
 -- the first stage stands at stride 1

@@ -2,13 +2,7 @@
 pub mod Sums
 pub mod Step
 pub mod Blocks
-pub mod Powers
-pub mod Iteration
-pub mod Arms
-pub mod Columns
 pub mod Verdicts
-pub mod After
-pub mod Runs
 pub mod Theorems
 pub mod Unique
 pub mod ShutOut

@@ -8,7 +8,8 @@ use Rattle.plan.specs.Record.{isPlanned, inOrder, sized}
 use Rattle.plan.specs.declared.Record.{Record}
 use Rattle.schedule.specs.Plans.{inUse}
 use Rattle.remainder.specs.Calls.{Lent, Chain, Stages, Runs}
-use Rattle.remainder.specs.Residues.{cells, sum, transform, blockSum, Blocks, Under}
+use Rattle.residues.specs.Residues.{cells, Under}
+use Rattle.remainder.specs.Sums.{sum, transform, blockSum, Blocks}
 use Rattle.remainder.proofs.Theorems.{chain-blocks, run-transforms}
 
 -- the plan of 3, 2, 2

@@ -1,18 +1,16 @@
 -- One stage in remainders takes the block sums of stride s to those of stride s * r.
 -- Assumes nothing.
-use Rattle.sequences.proofs.Basics.{_≡_, refl, sym, ap, _∙_, ℕ, zero, suc, _+_, _-_, _*_, _/_, _%_, _^_, _<_, add-mod, mod-mod, zero-mod, zero-add, add-zero}
-use Rattle.sequences.proofs.Basics.{zero-mul, mul-zero, mul-one, mul-assoc, pow-zero, le-of-lt, mod-lt, mod-one, div-add-mod', arith, List, pow-add, digits-mod}
+use Rattle.sequences.proofs.Basics.{_≡_, sym, ap, _∙_, ℕ, zero, suc, _+_, _-_, _*_, _/_, _%_, _^_, _<_, add-mod, mod-mod, zero-mod, zero-add}
+use Rattle.sequences.proofs.Basics.{mul-zero, mul-assoc, le-of-lt, mod-lt, div-add-mod', arith, List, pow-add, digits-mod}
 use Rattle.sequences.proofs.Basics.{digits-lt}
 use Rattle.counts.specs.Counts.{radix, stride}
-use Rattle.schedule.specs.Stage.{Part, twiddleTurn, kernelTurn, twiddledIn, read, total, plain, output, iteration, place}
-use Rattle.remainder.specs.Residues.{turn, residues, sum, blockSum, Blocks}
-use Rattle.remainder.proofs.Sums.{mod-mul, mul-congruent, pow-circles, sum-congruent, sum-mul, sum-digits}
+use Rattle.schedule.specs.Stage.{Part, twiddleTurn, kernelTurn, read, total, plain, output, iteration, place}
 use Rattle.schedule.proofs.Cells.{pos-left, pos-right, by-stride, by-radix, by-both, iteration-block, place-block}
-
--- a remainder turned by no part is itself: so a first stage, where i % 1 is 0, may leave the twiddles out
-pub turn-none : (m w h L x : ℕ) → x ≡ x % m → turn m w h (record { t = 0; L = L }) x ≡ x
-unfolding turn
-turn-none m w h L x l = simp (zero-mul, pow-zero, mul-one) (sym l)
+use Rattle.powers.proofs.Powers.{mod-mul}
+use Rattle.residues.specs.Residues.{turn, residues}
+use Rattle.residues.proofs.Iteration.{turn-none, read-turned}
+use Rattle.remainder.specs.Sums.{sum, blockSum, Blocks}
+use Rattle.remainder.proofs.Sums.{mul-congruent, pow-circles, sum-congruent, sum-mul, sum-digits}
 
 -- an output is the sum of its terms
 total-sum : (m w h r : ℕ) (x g : ℕ → ℕ) (p : ℕ) → ((q : ℕ) → q < r → turn m w h (kernelTurn p q r) (x q) ≡ g q % m) → x 0 ≡ x 0 % m
@@ -20,17 +18,6 @@ total-sum : (m w h r : ℕ) (x g : ℕ → ℕ) (p : ℕ) → ((q : ℕ) → q <
 unfolding total residues sum kernelTurn
 total-sum m w h r x g p term reduced zero l = sym (turn-none m w h r (x 0) reduced) ∙ simp (mul-zero, zero-mod) at (term zero l) ∙ rw zero-add
 total-sum m w h r x g p term reduced (suc q) l = rw (total-sum m w h r x g p term reduced q (le-of-lt l), term (suc q) l) (sym (add-mod _ _ m))
-
-first-cell : (m w h M : ℕ) (c : ℕ → ℕ) (i L : ℕ) → c (i + 0 * M) ≡ c (i + 0 * M) % m → turn m w h (record { t = 0; L = L }) (c (i + 0 * M)) ≡ c i
-first-cell m w h M c i L e = turn-none m w h L (c (i + 0 * M)) e ∙ ap c (rw zero-mul (add-zero i))
-
--- what an iteration reads is the cell turned by its twiddle, in the first stage too
-pub read-turned : (m w h j M s r : ℕ) (c : ℕ → ℕ) (i q : ℕ) → c (i + q * M) ≡ c (i + q * M) % m → (j ≡ 0 → s ≡ 1)
-    → read (residues m w h) j M s r c i q ≡ turn m w h (twiddleTurn s r i q) (c (i + q * M))
-unfolding read residues twiddledIn twiddleTurn
-read-turned m w h j M s r c i zero e f = sym (simp (mul-zero) (first-cell m w h M c i (s * r) e))
-read-turned m w h zero M s r c i (suc q) e f = rw (f refl, mod-one, zero-mul) (sym (turn-none m w h _ _ e))
-read-turned m w h (suc j) M s r c i (suc q) e f = refl
 
 turn-reduced : (m w h : ℕ) (a : Part) (x : ℕ) → turn m w h a x ≡ turn m w h a x % m
 unfolding turn

@@ -1,16 +1,13 @@
 -- Sums of numbers, and their remainders. `a % m ≡ b % m` says that a and b are congruent modulo m; modulo 0 that is equality.
 -- Assumes nothing.
-use Rattle.sequences.proofs.Basics.{_≡_, refl, sym, ap, _∙_, ℕ, zero, suc, _+_, _*_, _/_, _%_, _^_, _<_, add-mod, add-zero, add-suc, zero-mul, add-mul, suc-mul}
-use Rattle.sequences.proofs.Basics.{mul-comm, mul-one, mul-zero, le-refl, le-step, add-mul-mod-self-right, div-add-mod', arith, pow-add}
-use Rattle.remainder.specs.Residues.{sum}
+use Rattle.sequences.proofs.Basics.{_≡_, refl, sym, ap, _∙_, ℕ, zero, suc, _+_, _*_, _%_, _^_, _<_, add-mod, add-zero, add-suc, zero-mul, add-mul, suc-mul}
+use Rattle.sequences.proofs.Basics.{mul-comm, mul-one, mul-zero, le-refl, le-step, arith, pow-add}
+use Rattle.powers.proofs.Powers.{mod-mul}
+use Rattle.remainder.specs.Sums.{sum}
 
 module _ (m : ℕ) where
-  -- a factor may be reduced first
-  pub mod-mul : (a c : ℕ) → a % m * c % m ≡ a * c % m
-  mod-mul a c = sym (add-mul-mod-self-right (a % m * c) (a / m * c) m) ∙ ap (λ (n : ℕ). n % m) (omega (arith, ap (λ (n : ℕ). n * c) (div-add-mod' a m)))
-
   pub mul-congruent : (c a b : ℕ) → a % m ≡ b % m → c * a % m ≡ c * b % m
-  mul-congruent c a b p = rw (mul-comm c a, mul-comm c b, ← mod-mul a c, ← mod-mul b c, p)
+  mul-congruent c a b p = rw (mul-comm c a, mul-comm c b, ← mod-mul m a c, ← mod-mul m b c, p)
 
   -- whole circles do not count
   pub pow-circles : (w h : ℕ) → w ^ h % m ≡ 1 % m → (e t : ℕ) → w ^ (e + h * t) % m ≡ w ^ e % m

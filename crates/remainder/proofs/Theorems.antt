@@ -1,7 +1,8 @@
 -- What the promises of the calls give: each stage call of a chain is accepted, after it every block holds the shorter sum, and after the
 -- last the cells hold the discrete Fourier transform in remainders; the same of the buffer with the result after a run, which leaves in
 -- both buffers what the calls, written alternately, leave there. The premise `Lent` asks for no more than the calls do. Assumes nothing.
-use Rattle.sequences.proofs.Basics.{_≡_, refl, sym, ap, ap₂, _∙_, ℕ, zero, suc, _%_, _<_, _≤_, le-of-lt, le-refl, Bool, true, false, List, eqb, length}
+use Rattle.sequences.proofs.Basics.{_≡_, refl, sym, ap, ap₂, _∙_, ℕ, zero, suc, _%_, _^_, _<_, _≤_, le-of-lt, le-refl, mod-eq-of-lt, arith, Bool, true, false}
+use Rattle.sequences.proofs.Basics.{List, eqb, eqb-true, length}
 use Rattle.refusal.specs.declared.Verdict.{Verdict}
 use Rattle.refusal.specs.declared.Verdict.the-variants.{Accepted}
 use Rattle.refusal.proofs.Rows.{settled}
@@ -10,28 +11,39 @@ use Rattle.plan.specs.declared.Record.{Record}
 use Rattle.schedule.specs.Buffers.{Two, across, alternated, copiedBy, driven, heldIn}
 use Rattle.schedule.specs.Plans.{inUse}
 use Rattle.schedule.specs.Stage.{run, plain}
-use Rattle.schedule.proofs.Buffers.{sourceBy, source-run}
+use Rattle.schedule.proofs.Buffers.{sourceBy, source-run, held}
 use Rattle.schedule.proofs.Plans.{use-length, use-product}
-use Rattle.remainder.specs.Calls.{Lent, Chain, Called, Alternately, Stages, Runs, stageOf, stageVerdict, runOf, runVerdict}
-use Rattle.remainder.specs.Residues.{residues, cells, transform, Blocks}
-use Rattle.remainder.proofs.Blocks.{run-transform}
-use Rattle.remainder.proofs.Verdicts.{all-taken, stage-lent, none-refused}
-use Rattle.remainder.proofs.After.{after, circle, all, after-blocks, after-length, after-under}
-use Rattle.remainder.proofs.Runs.{both-lengths, held-after, run-lent}
+use Rattle.residues.specs.Residues.{residues, cells, stageOf, runOf}
+use Rattle.residues.proofs.Iteration.{all-under}
+use Rattle.residues.proofs.Runs.{after, after-lent, both-lengths}
+use Rattle.remainder.specs.Calls.{Lent, Chain, Called, Alternately, Stages, Runs, stageVerdict, runVerdict}
+use Rattle.remainder.specs.Sums.{transform, Blocks}
+use Rattle.remainder.proofs.Blocks.{run-blocks, run-transform}
+use Rattle.remainder.proofs.Verdicts.{all-taken, stage-lent, run-lent, none-refused}
 
 module _ (p : Record) (m w : ℕ) (xs : List ℕ) (h : Lent p m w xs) where
+  positive : 0 < m
+  positive = omega (arith, h .modulus)
+
+  circle : w ^ p .half % m ≡ 1 % m
+  circle = h .circle ∙ sym (mod-eq-of-lt (h .modulus))
+
+  all : (k : ℕ) → k < p .half → cells xs k < m
+  all k l = all-under m positive xs (h .cells) k
+
   -- what the stages before it wrote is accepted
-  each-accepted : (j : ℕ) → j < p .count → stageVerdict p j m w (after p m w xs h j) (p .half) ≡ Accepted
-  each-accepted j l = sym (stage-lent p j m w (after p m w xs h j) (p .half) (h .planned) l)
-      ∙ sym (all-taken (p .half) m w (after p m w xs h j) (p .half) (h .modulus) (h .base) (h .circle)
-      (after-length p m w xs h j) refl _ refl (none-refused m (after p m w xs h j) (after-under p m w xs h j (le-of-lt l))))
+  each-accepted : (j : ℕ) → j < p .count → stageVerdict p j m w (after p m w xs j) (p .half) ≡ Accepted
+  each-accepted j l =
+      let made = after-lent p m w (h .planned) positive xs (h .long) (h .cells) j (le-of-lt l) in
+      sym (stage-lent p j m w (after p m w xs j) (p .half) (h .planned) l)
+      ∙ sym (all-taken (p .half) m w (after p m w xs j) (p .half) (h .modulus) (h .base) (h .circle) (made .0) refl _ refl (none-refused m _ (made .1)))
 
   -- so a chain of calls leaves what the schedule states
   pub chain-after : (j : ℕ) → j ≤ p .count → (zs : List ℕ) → Chain p m w j xs zs → zs ≡ run plain (residues m w (p .half)) (p .half) (inUse p) j xs
   unfolding run
   chain-after zero l zs c = sym c
   chain-after (suc j) l zs (ys, (old, (r, (c, (e, s))))) =
-      let same : ys ≡ after p m w xs h j = chain-after j (le-of-lt l) ys c in
+      let same : ys ≡ after p m w xs j = chain-after j (le-of-lt l) ys c in
       let taken : stageVerdict p j m w ys (length old) ≡ Accepted = ap₂ (stageVerdict p j m w) same e ∙ each-accepted j l in
       settled _ _ _ _ _ s taken ∙ ap (stageOf p j m w) same
 
@@ -42,16 +54,18 @@ module _ (p : Record) (m w : ℕ) (xs : List ℕ) (h : Lent p m w xs) where
 
   -- after stage calls 0 to j - 1 every block holds the shorter sum
   pub chain-blocks : (j : ℕ) → j ≤ p .count → (zs : List ℕ) → Chain p m w j xs zs → Blocks m w (p .half) (stride (inUse p) j) (cells xs) (cells zs)
-  chain-blocks j l zs c = rw (chain-after j l zs c) (after-blocks p m w xs h j l)
+  chain-blocks j l zs c = rw (chain-after j l zs c)
+      (run-blocks m w (p .half) circle (inUse p) (use-product p (h .planned)) xs all j (rw (use-length p (h .planned)) l))
+
+  last-transform : (k : ℕ) → k < p .half → cells (after p m w xs (p .count)) k ≡ transform m w (p .half) (cells xs) k
+  last-transform = rw (use-length p (h .planned)) at (run-transform m w (p .half) circle (inUse p) (use-product p (h .planned)) xs all)
 
   -- after the last, cell k holds the remainder of the sum of x(j) * w^(jk)
   pub chain-transform : (zs : List ℕ) → Chain p m w (p .count) xs zs → (k : ℕ) → k < p .half → cells zs k ≡ transform m w (p .half) (cells xs) k
-  chain-transform zs c k l = ap (λ (ys : List ℕ). cells ys k) (chain-after (p .count) (le-refl (p .count)) zs c)
-      ∙ ap (λ (n : ℕ). cells (after p m w xs h n) k) (sym (use-length p (h .planned)))
-      ∙ run-transform m w (p .half) (circle p m w xs h) (inUse p) (use-product p (h .planned)) xs (all p m w xs h) k l
+  chain-transform zs c k l = rw (chain-after (p .count) (le-refl (p .count)) zs c) (last-transform k l)
 
   run-taken : (ys : List ℕ) → length ys ≡ p .half → runVerdict p m w xs (length ys) ≡ Accepted
-  run-taken ys e = sym (run-lent p m w (xs, ys) (h .planned))
+  run-taken ys e = sym (run-lent p m w xs (length ys) (h .planned))
       ∙ sym (all-taken (p .half) m w xs (length ys) (h .modulus) (h .base) (h .circle) (h .long) e _ refl (none-refused m xs (h .cells)))
 
   -- a run with a scratchpad of h cells is accepted
@@ -60,9 +74,13 @@ module _ (p : Record) (m w : ℕ) (xs : List ℕ) (h : Lent p m w xs) where
 
   -- what it makes of the buffer with the result is the transform
   result-transform : (ys : List ℕ) (k : ℕ) → k < p .half → cells (heldIn (resultIn (p .count)) (runOf p m w (xs, ys))) k ≡ transform m w (p .half) (cells xs) k
-  result-transform ys k l = ap (λ (zs : List ℕ). cells zs k) (held-after p m w xs ys h)
-      ∙ ap (λ (n : ℕ). cells (after p m w xs h n) k) (sym (use-length p (h .planned)))
-      ∙ run-transform m w (p .half) (circle p m w xs h) (inUse p) (use-product p (h .planned)) xs (all p m w xs h) k l
+  unfolding driven resultIn
+  result-transform ys k l = rw (
+    held (eqb (p .count) 1) (eqb (p .count % 2) 0) (alternated (λ j. stageOf p j m w) (p .count) (xs, ys))
+        (λ e. ap (λ (n : ℕ). eqb (n % 2) 0) (eqb-true (p .count) 1 e)),
+    source-run plain (residues m w (p .half)) (p .half) (inUse p) (xs, ys) (p .count),
+  )
+      (last-transform k l)
 
   -- after it the buffer with the result holds the transform
   pub run-transforms : (ys : List ℕ) → length ys ≡ p .half → (r : Verdict) (b : Two ℕ) → Runs p m w (xs, ys) r b

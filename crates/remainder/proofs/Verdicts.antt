@@ -6,8 +6,8 @@ use Rattle.refusal.proofs.Rows.{deciding, accepted}
 use Rattle.sequences.proofs.First.{none-passes, each-fails}
 use Rattle.plan.specs.Record.{isPlanned}
 use Rattle.plan.specs.declared.Record.{Record}
-use Rattle.remainder.specs.Residues.{Under}
-use Rattle.remainder.specs.Calls.{firstLarge, lentVerdict, stageVerdict, Lent}
+use Rattle.residues.specs.Residues.{Under}
+use Rattle.remainder.specs.Calls.{firstLarge, lentVerdict, stageVerdict, runVerdict, Lent}
 
 -- what is rightly lent is accepted
 pub all-taken : (h m w : ℕ) (xs : List ℕ) (room : ℕ) → 2 ≤ m → w < m → w ^ h % m ≡ 1 → length xs ≡ h → room ≡ h → (k : ℕ) → k ≡ firstLarge m xs
@@ -41,6 +41,17 @@ module _ (p : Record) (j m w : ℕ) (xs : List ℕ) where
   pub stage-lent : (room : ℕ) → isPlanned p ≡ true → j < p .count → lentVerdict (p .half) m w xs room ≡ stageVerdict p j m w xs room
   unfolding stageVerdict lentVerdict
   stage-lent room e l = simp (e, lt-ltb j (p .count) l)
+
+-- ---- a run
+
+module _ (p : Record) (m w : ℕ) (xs : List ℕ) (room : ℕ) where
+  pub run-unplanned : isPlanned p ≡ false → Refused (NotPlanned 0) ≡ runVerdict p m w xs room
+  unfolding runVerdict
+  run-unplanned e = simp (e)
+
+  pub run-lent : isPlanned p ≡ true → lentVerdict (p .half) m w xs room ≡ runVerdict p m w xs room
+  unfolding runVerdict lentVerdict
+  run-lent e = simp (e)
 
 -- remainders are taken
 pub none-refused : (m : ℕ) (xs : List ℕ) → Under m (length xs) xs → length xs ≤ firstLarge m xs

@@ -11,11 +11,8 @@ use Rattle.refusal.specs.declared.Verdict.{Verdict}
 use Rattle.sequences.specs.Lists.{firstThat}
 use Rattle.plan.specs.Record.{isPlanned}
 use Rattle.plan.specs.declared.Record.{Record}
-use Rattle.schedule.specs.Buffers.{Two, driven}
-use Rattle.schedule.specs.Plans.{inUse}
-use Rattle.schedule.specs.Stage.{stage, plain}
-use Rattle.remainder.specs.Residues.{residues, Under}
-use Rattle.remainder.specs.Parts as Parts
+use Rattle.schedule.specs.Buffers.{Two}
+use Rattle.residues.specs.Residues.{Under, stageOf, runOf}
 
 -- the index of the first number not below m, or the length
 unfoldable pub firstLarge : ℕ → List ℕ → ℕ
@@ -43,14 +40,6 @@ stageVerdict p j m w xs room = verdict (not (isPlanned p) ⇒ NotPlanned 0 ∷ n
 unfoldable pub runVerdict : Record → (m w : ℕ) → List ℕ → (room : ℕ) → Verdict
 runVerdict p m w xs room = verdict (not (isPlanned p) ⇒ NotPlanned 0 ∷ lentRows (p .half) m w xs room)
 
--- the schedule's stage j of a plan in remainders
-abbrev pub stageOf : Record → (j m w : ℕ) → List ℕ → List ℕ
-stageOf p j m w xs = stage plain (residues m w (p .half)) (p .half) (inUse p) j xs
-
--- what a run leaves in its two buffers: what the stage calls, written alternately, leave there, a single radix copied back
-abbrev pub runOf : Record → (m w : ℕ) → Two ℕ → Two ℕ
-runOf p m w b = driven (λ j. stageOf p j m w) (p .count) b
-
 -- what `stage` promises of its answer r and of what is left in the other buffer
 abbrev pub Stages : Record → (j m w : ℕ) → (input other : List ℕ) → Verdict → List ℕ → Type 0
 Stages p j m w input other r after = Settles (stageVerdict p j m w input (length other)) (stageOf p j m w input) other r after
@@ -58,16 +47,6 @@ Stages p j m w input other r after = Settles (stageVerdict p j m w input (length
 -- what `run` promises of its answer r and of what is left in its two buffers
 abbrev pub Runs : Record → (m w : ℕ) → Two ℕ → Verdict → Two ℕ → Type 0
 Runs p m w before r after = Settles (runVerdict p m w (before .0) (length (before .1))) (runOf p m w before) before r after
-
--- what the work of a stage asks for
-pub record Workable (p : Record) (j m w : ℕ) (src : List ℕ) (room : ℕ) : Type 0 where
-  pub planned : isPlanned p ≡ true
-  pub known : j < p .count
-  pub modulus : Parts.Modulus m
-  pub base : w < m
-  pub long : length src ≡ p .half
-  pub wide : room ≡ p .half
-  pub cells : Under m (length src) src
 
 -- what a run or a chain of stages is lent: an accepted plan, a modulus, a base whose power h leaves 1, and h remainders
 pub record Lent (p : Record) (m w : ℕ) (xs : List ℕ) : Type 0 where
@@ -77,12 +56,6 @@ pub record Lent (p : Record) (m w : ℕ) (xs : List ℕ) : Type 0 where
   pub circle : w ^ p .half % m ≡ 1
   pub long : length xs ≡ p .half
   pub cells : Under m (length xs) xs
-
--- what the driver of a run asks for
-pub record Drivable (p : Record) (m w : ℕ) (xs : List ℕ) (room : ℕ) : Type 0 where
-  pub lent : Lent p m w xs
-  pub small : m < 4294967296
-  pub wide : room ≡ p .half
 
 -- zs is what stage calls 0 to j - 1 make of xs, each lent what the one before wrote and another buffer of h cells with anything in it
 abbrev pub Chain : Record → (m w j : ℕ) → (xs zs : List ℕ) → Type 0

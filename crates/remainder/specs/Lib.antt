@@ -1,4 +1,3 @@
--- The definitions that contracts cite.
-pub mod Residues
-pub mod Parts
+-- The definitions that contracts and theorems cite.
+pub mod Sums
 pub mod Calls

@@ -1,5 +1,2 @@
-// What other crates call under a proof, and the parts of a stage.
+// The tests before a call's work.
 pub mod check;
-pub mod drive;
-pub mod power;
-pub mod stage;

@@ -2,12 +2,12 @@
 pub mod inner;
 
 use inner::check::lent;
-use inner::drive::all;
-use inner::stage::work;
 use plan::Record;
 use plan::inner::records::is_planned;
 use refusal::Refusal;
 use refusal::Verdict;
+use residues::inner::drive::all;
+use residues::inner::stage::work;
 ghost use Rattle.remainder.specs.Calls.{Stages, Runs};
 
 // Stage `number` of a plan in remainders modulo m: what the input makes is written to the other buffer.

@@ -19,16 +19,17 @@ work-requires c κs =
     let c3 = c .before .before .before in let c6 = c3 .before .before .before in
     let s = c6 .before .before .before .before in let a = s .args in
     let t = taken (a .plan) (a .m) (a .w) (a .input .now) (length (a .other .now)) (sym (c6 .before .is-planned .ensures) ∙ not-false _ (c6 .if1 .left))
-    (sym (c3 .lent .ensures) ∙ c .before .enum-told .given .1) in
-    record {
-      planned = t .0 .planned;
-      known = c3 .before .if2 .left;
-      modulus = record { two = t .0 .modulus; small = search needs };
-      base = t .0 .base;
-      long = t .0 .long;
-      wide = t .1;
-      cells = t .0 .cells;
-    }
+    (sym (c3 .lent .ensures) ∙ c .before .enum-told .given .1) in (
+      record {
+        planned = t .0 .planned;
+        modulus = record { two = t .0 .modulus; small = search needs };
+        base = t .0 .base;
+        long = t .0 .long;
+        wide = t .1;
+        cells = t .0 .cells;
+      },
+      c3 .before .if2 .left,
+    )
 
 returns-3 : fn.Tie.Need-returns-3
 returns-3 c =

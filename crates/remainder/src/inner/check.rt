@@ -1,5 +1,5 @@
 // Which moduli, bases, lengths and remainders are taken.
-use crate::inner::power::power;
+use powers::inner::power::power;
 use refusal::Refusal;
 use refusal::Verdict;
 ghost use mathlib.Core.Path.{_≡_};

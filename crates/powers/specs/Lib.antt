@@ -1,0 +1,1 @@
+-- The definitions that contracts cite: none, since the kit has powers and remainders.

@@ -1,0 +1,2 @@
+// Powers in remainders.
+pub mod inner;

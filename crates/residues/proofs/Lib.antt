@@ -1,0 +1,5 @@
+-- The laws that the proofs share, by subject.
+pub mod Iteration
+pub mod Arms
+pub mod Columns
+pub mod Runs
