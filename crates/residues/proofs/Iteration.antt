@@ -49,16 +49,9 @@ small-product p q h l = mul-le-mul {n₂ = 7} {m₂ = 7} h l
 pub term-next : (m r p q : ℕ) (x turns : List ℕ) (acc : ℕ) → 0 < q → acc ≡ total (lentBy m 1 turns) r (cells x) p (q - 1)
     → (acc + cells x q * getD turns (p * q % r) 0) % m ≡ total (lentBy m 1 turns) r (cells x) p q
 unfolding lentBy kernelTurn
-term-next m r p q x turns acc l e = reduced ∙ next
-  where
-    t : ℕ
-    t = cells x q * getD turns (p * q % r) 0
-
-    reduced : (acc + t) % m ≡ (acc + t % m) % m
-    reduced = add-mod acc t m ∙ ap (λ (n : ℕ). (acc % m + n) % m) (sym (mod-mod t m)) ∙ sym (add-mod acc (t % m) m)
-
-    next : (acc + t % m) % m ≡ total (lentBy m 1 turns) r (cells x) p q
-    next = total-next (lentBy m 1 turns) r (cells x) p q acc l e
+term-next m r p q x turns acc l e =
+    let t = cells x q * getD turns (p * q % r) 0 in
+    rw (add-mod acc t m, ← mod-mod t m, ← add-mod acc (t % m) m) (total-next (lentBy m 1 turns) r (cells x) p q acc l e)
 
 -- a kernel rests on the cells that it takes in
 pub kernel-same : (m : ℕ) (turns : List ℕ) (r : ℕ) (x y : ℕ → ℕ) → 0 < r → ((q : ℕ) → q < r → x q ≡ y q) → (p : ℕ)

@@ -1,11 +1,11 @@
 -- Laws of a run: its stages find what they ask for, and leave h remainders. Assumes nothing.
-use Rattle.sequences.proofs.Basics.{_≡_, sym, ap, subst, _∙_, ℕ, zero, suc, _-_, _%_, _<_, _≤_, le-of-lt, mod-lt, arith, Bool, true, false, List, eqb, length}
+use Rattle.sequences.proofs.Basics.{_≡_, sym, ap, _∙_, ℕ, zero, suc, _-_, _%_, _<_, _≤_, le-of-lt, mod-lt, arith, Bool, true, false, List, eqb, length}
 use Rattle.sequences.proofs.Basics.{eq-eqb, ne-eqb}
 use Rattle.counts.specs.Counts.{radix, stride}
 use Rattle.plan.specs.Record.{isPlanned}
 use Rattle.plan.specs.declared.Record.{Record}
 use Rattle.plan.proofs.Bounds.{plan-radix-bounds}
-use Rattle.schedule.specs.Buffers.{Two, alternated}
+use Rattle.schedule.specs.Buffers.{alternated}
 use Rattle.schedule.specs.Plans.{inUse}
 use Rattle.schedule.specs.Stage.{plain, total, output, stageBy, stage, run}
 use Rattle.schedule.proofs.Cells.{length-stage, getD-tabulate}
@@ -49,31 +49,26 @@ module _ (p : Record) (m w : ℕ) where
       after-lent zero l = (long, under)
       after-lent (suc j) l = let e = stage-long j (after xs j) in (e, rw e (stage-under j l (after xs j)))
 
-module _ (p : Record) (m w : ℕ) (xs ys : List ℕ) (room : ℕ) (h : Workable p m w xs room) where
-  -- the buffers after k stages
-  abbrev both : ℕ → Two ℕ
-  both k = alternated (λ j. stageOf p j m w) k (xs, ys)
+-- the buffers d and s hold what k stages leave of xs and ys
+abbrev pub Left : Record → (m w : ℕ) → (xs ys d s : List ℕ) → (k : ℕ) → Type 0
+Left p m w xs ys d s k = let b = alternated (λ j. stageOf p j m w) k (xs, ys) in (d ≡ b .0) × (s ≡ b .1)
 
-  module _ (k : ℕ) (l : k < p .count) where
-    -- what stage k reads
-    workable : (t : Bool) → eqb (k % 2) 0 ≡ t → (src : List ℕ) (n : ℕ) → src ≡ sourceBy t (both k) → n ≡ p .half → Workable p m w src n × (k < p .count)
-    workable t e src n s f =
-        let same : src ≡ after p m w xs k
-        = s ∙ ap (λ (u : Bool). sourceBy u (both k)) (sym e) ∙ source-run plain (residues m w (p .half)) (p .half) (inUse p) (xs, ys) k in
-        let made = after-lent p m w (h .planned) (omega (arith, h .modulus .two)) xs (h .long) (h .cells) k (le-of-lt l) in (
-          record {
-            planned = h .planned;
-            modulus = h .modulus;
-            base = h .base;
-            long = ap length same ∙ made .0;
-            wide = f;
-            cells = subst (λ (zs : List ℕ). Under m (length zs) zs) (sym same) (made .1);
-          },
-          l,
-        )
+module _ {p : Record} {m w : ℕ} {xs : List ℕ} (ys : List ℕ) (h : Workable p m w xs (length ys)) (d s : List ℕ) (k : ℕ) (e : Left p m w xs ys d s k) where
+  pub as-long : (length d ≡ p .half) × (length s ≡ p .half)
+  as-long = let long = both-lengths p m w xs ys (h .long) (h .wide) k in (ap length (e .0) ∙ long .0, ap length (e .1) ∙ long .1)
 
-    pub even-workable : k % 2 ≡ 0 → (src : List ℕ) (n : ℕ) → src ≡ both k .0 → n ≡ p .half → Workable p m w src n × (k < p .count)
-    even-workable e = workable true (eq-eqb (k % 2) 0 e)
+  -- stage k reads what those before it made
+  source : sourceBy (eqb (k % 2) 0) (alternated (λ j. stageOf p j m w) k (xs, ys)) ≡ after p m w xs k
+  source = source-run plain (residues m w (p .half)) (p .half) (inUse p) (xs, ys) k
 
-    pub odd-workable : (k % 2 ≡ 0 → ⊥) → (src : List ℕ) (n : ℕ) → src ≡ both k .1 → n ≡ p .half → Workable p m w src n × (k < p .count)
-    odd-workable e = workable false (ne-eqb (k % 2) 0 e)
+  module _ (l : k < p .count) where
+    workable : (src : List ℕ) (n : ℕ) → src ≡ after p m w xs k → n ≡ p .half → Workable p m w src n × (k < p .count)
+    workable src n f g =
+        let made = after-lent p m w (h .planned) (omega (arith, h .modulus .two)) xs (h .long) (h .cells) k (le-of-lt l) in
+        (record { planned = h .planned; modulus = h .modulus; base = h .base; long = rw f (made .0); wide = g; cells = rw f (made .1) }, l)
+
+    pub even-workable : k % 2 ≡ 0 → Workable p m w d (length s) × (k < p .count)
+    even-workable f = workable d _ (e .0 ∙ rw (eq-eqb (k % 2) 0 f) at source) (as-long .1)
+
+    pub odd-workable : (k % 2 ≡ 0 → ⊥) → Workable p m w s (length d) × (k < p .count)
+    odd-workable f = workable s _ (e .1 ∙ rw (ne-eqb (k % 2) 0 f) at source) (as-long .0)

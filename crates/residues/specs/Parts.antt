@@ -4,7 +4,6 @@ use mathlib.Core.Path.{_≡_}
 use mathlib.Core.Bool.{true}
 use mathlib.Core.List.{List}
 use lib.ListN.{length, getD}
-use Rattle.radices.specs.Lists.{isRadix}
 use Rattle.plan.specs.Record.{isPlanned}
 use Rattle.plan.specs.declared.Record.{Record}
 use Rattle.schedule.specs.Parts.{Wrote, Done}
@@ -42,14 +41,14 @@ outputOf m step M s r src turns = output plain (lentBy m step turns) 1 M s r (ce
 abbrev pub Spread : (T : ℕ → Type 0) → (to s : ℕ) → (ℕ → ℕ) → (ys ys′ : List ℕ) → Type 0
 Spread T to s g ys ys′ = Wrote T (λ p. to + p * s) g (cells ys) (cells ys′)
 
--- the outputs v i p are in their cells: of the columns up to k, and of column k those of the iterations below n
+-- the outputs v i p are in their cells: of the columns up to k, and of column k those of the first n blocks
 abbrev pub Walked : (M s r : ℕ) → (ℕ → ℕ → ℕ) → List ℕ → (k n : ℕ) → Type 0
-Walked M s r v ys k n = Done s r v (cells ys) (λ i p. (i < M) × ((i % s ≤ k) × (i % s ≡ k → i < n)))
+Walked M s r v ys k n = Done s r v (cells ys) (λ i p. (i < M) × ((i % s ≤ k) × (i % s ≡ k → i / s < n)))
 
 -- what reading the cells of iteration i of M asks for
 pub record Reading (m v M i r : ℕ) (src : List ℕ) : Type 0 where
   pub modulus : Modulus m
-  pub some : 0 < r
+  pub some : 2 ≤ r
   pub few : r ≤ 8
   pub power : v < m
   pub cells : Under m (length src) src
@@ -67,9 +66,9 @@ pub record Writing (m to s r : ℕ) (turns : List ℕ) (room : ℕ) : Type 0 whe
 -- M iterations of radix r are whole blocks of s
 pub record Blocks (M s r : ℕ) : Type 0 where
   pub stride : 0 < s
-  pub radix : isRadix r ≡ true
-  pub some : 0 < r
+  pub some : 2 ≤ r
   pub few : r ≤ 8
+  pub other : r ≡ 6 → ⊥
   pub whole : M ≡ M / s * s
   pub small : M ≤ 4096
   pub narrow : s ≤ 4096

@@ -3,10 +3,8 @@ use counts::inner::stages::stride;
 use plan::Record;
 use powers::inner::power::power;
 ghost use mathlib.Core.Path.{_≡_};
-ghost use mathlib.Core.Bool.{true};
 ghost use Prim.Native.Nat.{ℕ, _+_, _*_, _%_, _^_, _≤_, _<_};
 ghost use lib.ListN.{length, getD};
-ghost use Rattle.radices.specs.Lists.{isRadix};
 ghost use Rattle.schedule.specs.Parts.{Every};
 ghost use Rattle.residues.specs.Parts.{Modulus, kernelOf, readOf, outputOf, Spread, Walked, Reading, Writing, Staged, Workable};
 ghost use Rattle.residues.specs.Residues.{cells, stageOf, Under};
@@ -87,7 +85,7 @@ fn one(
     r: usize,
     m: u64,
 )
-    requires { ⌜ (isRadix r ≡ true) × Reading m v apart i r (now src) × Writing m to s r turns (length (now dst)) ⌝ }
+    requires { ⌜ Reading m v apart i r (now src) × Writing m to s r turns (length (now dst)) × (r ≡ 6 → ⊥) ⌝ }
     ensures { λ _. ⌜ Spread (λ p. p < r) to s (kernelOf m turns r (readOf m v apart (now (src .entry)) i)) (now (dst .entry)) (now (dst .exit)) ⌝ }
 {
     if r < 4 {

@@ -16,7 +16,7 @@ abbrev μ-loop : fn.Tie.MeasureT-loop
 loop-holds : fn.Tie.Need-loop-holds Inv-loop μ-loop
 loop-holds c =
     let a = c .before .args in let h = c .before .pre in
-    let first = read-first (a .m) (a .v) (a .apart) (a .src .now) (a .i) (h .cells (a .i) (omega (arith, h .reads 0 (h .some)))) in
+    let first = read-first (a .m) (a .v) (a .apart) (a .src .now) (a .i) (h .cells (a .i) (omega (arith, h .reads 0 (omega (arith, h .some))))) in
     (omega arith, omega arith, refl, power-one (a .v) (a .m) (h .power), λ k l. let e : k ≡ 0 = omega arith in rw e first)
 
 mul-c-3 : fn.Tie.Need-mul-c-3 Inv-loop μ-loop
@@ -47,8 +47,8 @@ loop-again c =
     )
 
 pub cells-spec : {M : Type 1} → fn.Statement.statement M
-cells-spec = fn.Tie.close (fn.Tie.spec Inv-loop μ-loop (λ c. let a = c .pre in omega (arith, a .reads 0 (a .some)))
-    (λ c. let a = c .before .pre in omega (arith, a .reads 0 (a .some)))
+cells-spec = fn.Tie.close (fn.Tie.spec Inv-loop μ-loop (λ c. let a = c .pre in omega (arith, a .reads 0 (omega (arith, a .some))))
+    (λ c. let a = c .before .pre in omega (arith, a .reads 0 (omega (arith, a .some))))
     (λ c. omega (arith, c .shared-slice-known .given (c .before .args .i)))
     loop-holds (λ c. omega (arith, c .before .before .before .pre .reads (c .before .loop .q) (c .loop-test .taken)))
     (λ c. omega (arith, c .before .before .before .pre .reads (c .before .loop .q) (c .loop-test .taken)))

@@ -1,6 +1,6 @@
 -- `residues::inner::stage::columns` meets its contract. Assumes nothing.
-use Rattle.sequences.proofs.Basics.{_≡_, refl, sym, subst, _∙_, _-_, _%_, _^_, _≤_, arith, length, needs}
-use Rattle.residues.specs.Parts.{outputOf, Walked, Staged}
+use Rattle.sequences.proofs.Basics.{_≡_, refl, _∙_, _-_, _%_, _^_, _≤_, arith, length, needs}
+use Rattle.residues.specs.Parts.{outputOf, Walked}
 use Rattle.residues.proofs.Columns.{walked-none}
 use Rattle.powers.proofs.Powers.{power-none, next-power, below-mod, product-fits}
 use Rattle.residues.proofs.inner.stage.columns as fn
@@ -20,15 +20,13 @@ loop-holds c =
 column-requires : fn.Tie.Need-column-requires Inv-loop μ-loop
 column-requires c κs =
     let s = c .before .before .before .before .before in let l = c .before .before .loop in
-    let h = subst (Staged (s .args .m) (s .args .apart) (s .args .s) (s .args .r) (s .args .turns) (s .args .src .now)) (sym (l .inv .2)) (s .pre .0) in
-    (h, c .before .loop-test .taken, below-mod (l .v) (s .args .step ^ l .k) (s .args .m) (l .inv .0) (omega (arith, h .modulus .two)))
+    (rw (l .inv .2) (s .pre .0), c .before .loop-test .taken, below-mod (l .v) _ (s .args .m) (l .inv .0) (omega (arith, s .pre .0 .modulus .two)))
 
 mul-v : fn.Tie.Need-mul-v Inv-loop μ-loop
 mul-v c =
     let s = c .before .before .before .before .before .before .before .before in
     let l = c .before .before .before .before .before .loop in let h = s .pre .0 .modulus in
-    let v = below-mod (l .v) (s .args .step ^ l .k) (s .args .m) (l .inv .0) (omega (arith, h .two)) in
-    record { fits = product-fits (l .v) (s .args .step) (s .args .m) v (s .pre .1) (h .small) }
+    record { fits = product-fits _ _ (s .args .m) (below-mod (l .v) _ (s .args .m) (l .inv .0) (omega (arith, h .two))) (s .pre .1) (h .small) }
 
 loop-again : fn.Tie.Need-loop-again Inv-loop μ-loop
 loop-again c =
@@ -36,8 +34,7 @@ loop-again c =
     let l = c .before .before .before .before .before .loop in let o = c .before .before .column in (
       next-power (a .step) (a .m) (l .k) (l .v) (l .inv .0),
       omega (arith, c .before .before .before .before .loop-test .taken),
-      o .kept .1 .0
-          ∙ l .inv .2,
+      o .kept .1 .0 ∙ l .inv .2,
       o .ensures (a .step) (l .inv .0) (l .inv .3),
     )
 

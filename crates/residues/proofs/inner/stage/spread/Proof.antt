@@ -1,14 +1,13 @@
 -- `residues::inner::stage::spread` meets its contract. Assumes nothing.
-use Rattle.sequences.proofs.Basics.{sym, subst, arith, needs}
+use Rattle.sequences.proofs.Basics.{arith, needs}
 use Rattle.schedule.proofs.Fill.{every-both}
-use Rattle.residues.specs.Parts.{Writing}
 use Rattle.residues.proofs.Arms.{steps-apart}
 use Rattle.residues.proofs.inner.stage.spread as fn
 
 every-requires-2 : fn.Tie.Need-every-requires-2
 every-requires-2 c κs =
     let s = c .before .before .before .before .before .before in (
-      subst (Writing (s .args .m) (s .args .to) (s .args .s) (s .args .r) (s .args .turns)) (sym (c .before .before .before .every .kept .1 .1 .0)) (s .pre .0),
+      rw (c .before .before .before .every .kept .1 .1 .0) (s .pre .0),
       s .pre .1,
       omega arith,
     )
