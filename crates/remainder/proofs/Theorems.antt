@@ -16,10 +16,10 @@ use Rattle.schedule.proofs.Plans.{use-length, use-product}
 use Rattle.residues.specs.Residues.{residues, cells, stageOf, runOf}
 use Rattle.residues.proofs.Iteration.{all-under}
 use Rattle.residues.proofs.Runs.{after, after-lent, both-lengths}
-use Rattle.remainder.specs.Calls.{Lent, Chain, Called, Alternately, Stages, Runs, stageVerdict, runVerdict}
+use Rattle.remainder.specs.Calls.{Lent, Chain, Called, Alternately, Stages, Runs, stageVerdict}
 use Rattle.remainder.specs.Sums.{transform, Blocks}
 use Rattle.remainder.proofs.Blocks.{run-blocks, run-transform}
-use Rattle.remainder.proofs.Verdicts.{all-taken, stage-lent, run-lent, none-refused}
+use Rattle.remainder.proofs.Verdicts.{stage-taken, run-taken}
 
 module _ (p : Record) (m w : ℕ) (xs : List ℕ) (h : Lent p m w xs) where
   positive : 0 < m
@@ -35,8 +35,9 @@ module _ (p : Record) (m w : ℕ) (xs : List ℕ) (h : Lent p m w xs) where
   each-accepted : (j : ℕ) → j < p .count → stageVerdict p j m w (after p m w xs j) (p .half) ≡ Accepted
   each-accepted j l =
       let made = after-lent p m w (h .planned) positive xs (h .long) (h .cells) j (le-of-lt l) in
-      sym (stage-lent p j m w (after p m w xs j) (p .half) (h .planned) l)
-      ∙ sym (all-taken (p .half) m w (after p m w xs j) (p .half) (h .modulus) (h .base) (h .circle) (made .0) refl _ refl (none-refused m _ (made .1)))
+      let lent : Lent p m w (after p m w xs j) =
+      record { planned = h .planned; modulus = h .modulus; base = h .base; circle = h .circle; long = made .0; cells = made .1 } in
+      sym (stage-taken lent (p .half) refl j l)
 
   -- so a chain of calls leaves what the schedule states
   pub chain-after : (j : ℕ) → j ≤ p .count → (zs : List ℕ) → Chain p m w j xs zs → zs ≡ run plain (residues m w (p .half)) (p .half) (inUse p) j xs
@@ -64,13 +65,9 @@ module _ (p : Record) (m w : ℕ) (xs : List ℕ) (h : Lent p m w xs) where
   pub chain-transform : (zs : List ℕ) → Chain p m w (p .count) xs zs → (k : ℕ) → k < p .half → cells zs k ≡ transform m w (p .half) (cells xs) k
   chain-transform zs c k l = rw (chain-after (p .count) (le-refl (p .count)) zs c) (last-transform k l)
 
-  run-taken : (ys : List ℕ) → length ys ≡ p .half → runVerdict p m w xs (length ys) ≡ Accepted
-  run-taken ys e = sym (run-lent p m w xs (length ys) (h .planned))
-      ∙ sym (all-taken (p .half) m w xs (length ys) (h .modulus) (h .base) (h .circle) (h .long) e _ refl (none-refused m xs (h .cells)))
-
   -- a run with a scratchpad of h cells is accepted
   pub run-accepts : (ys : List ℕ) → length ys ≡ p .half → (r : Verdict) (b : Two ℕ) → Runs p m w (xs, ys) r b → r ≡ Accepted
-  run-accepts ys e r b s = s .answer ∙ run-taken ys e
+  run-accepts ys e r b s = s .answer ∙ sym (run-taken h (length ys) e)
 
   -- what it makes of the buffer with the result is the transform
   result-transform : (ys : List ℕ) (k : ℕ) → k < p .half → cells (heldIn (resultIn (p .count)) (runOf p m w (xs, ys))) k ≡ transform m w (p .half) (cells xs) k
@@ -85,14 +82,14 @@ module _ (p : Record) (m w : ℕ) (xs : List ℕ) (h : Lent p m w xs) where
   -- after it the buffer with the result holds the transform
   pub run-transforms : (ys : List ℕ) → length ys ≡ p .half → (r : Verdict) (b : Two ℕ) → Runs p m w (xs, ys) r b
       → (k : ℕ) → k < p .half → cells (heldIn (resultIn (p .count)) b) k ≡ transform m w (p .half) (cells xs) k
-  run-transforms ys e r b s k l = ap (λ (c : Two ℕ). cells (heldIn (resultIn (p .count)) c) k) (settled _ _ _ _ _ s (run-taken ys e)) ∙ result-transform ys k l
+  run-transforms ys e r b s k l = ap (λ (c : Two ℕ). cells (heldIn (resultIn (p .count)) c) k) (settled _ _ _ _ _ s (sym (run-taken h (length ys) e))) ∙ result-transform ys k l
 
   -- stage calls written alternately leave what the stages do
   alternates : (ys : List ℕ) → length ys ≡ p .half → (k : ℕ) → k ≤ p .count → (b : Two ℕ) → Alternately p m w k (xs, ys) b
       → b ≡ alternated (λ j. stageOf p j m w) k (xs, ys)
   unfolding alternated
   alternates ys e zero l b a = sym a
-  alternates ys e (suc k) l b (c, (r, (a, called))) = go (alternates ys e k (le-of-lt l) c a) (eqb (k % 2) 0) refl called
+  alternates ys e (suc k) l b (c, (r, (a, called))) = go (eqb (k % 2) 0) refl (rw (alternates ys e k (le-of-lt l) c a) at called)
     where
       stages : Two ℕ
       stages = alternated (λ j. stageOf p j m w) k (xs, ys)
@@ -100,22 +97,16 @@ module _ (p : Record) (m w : ℕ) (xs : List ℕ) (h : Lent p m w xs) where
       long : (length (stages .0) ≡ p .half) × (length (stages .1) ≡ p .half)
       long = both-lengths p m w xs ys (h .long) e k
 
-      taken : (src : List ℕ) (n : ℕ) → src ≡ sourceBy (eqb (k % 2) 0) stages → n ≡ p .half → stageVerdict p k m w src n ≡ Accepted
-      taken src n f g = ap₂ (stageVerdict p k m w) (f ∙ source-run plain (residues m w (p .half)) (p .half) (inUse p) (xs, ys) k) g ∙ each-accepted k l
+      taken : (t : Bool) → eqb (k % 2) 0 ≡ t → (n : ℕ) → n ≡ p .half → stageVerdict p k m w (sourceBy t stages) n ≡ Accepted
+      taken t f n g = ap₂ (stageVerdict p k m w) (rw f at (source-run plain (residues m w (p .half)) (p .half) (inUse p) (xs, ys) k)) g ∙ each-accepted k l
 
-      go : c ≡ stages → (t : Bool) → eqb (k % 2) 0 ≡ t → Called t p k m w c r b → b ≡ across t (stageOf p k m w) stages
-      go same true f (kept, s) = ap₂ (λ (d q : List ℕ). (d, q)) (kept ∙ ap (λ (u : Two ℕ). u .0) same)
-          (settled _ _ _ _ _ s (taken (c .0) (length (c .1)) (ap (λ (u : Two ℕ). u .0) same ∙ ap (λ (u : Bool). sourceBy u stages) (sym f))
-          (ap (λ (u : Two ℕ). length (u .1)) same ∙ long .1))
-          ∙ ap (λ (u : Two ℕ). stageOf p k m w (u .0)) same)
-      go same false f (kept, s) = ap₂ (λ (d q : List ℕ). (d, q))
-          (settled _ _ _ _ _ s (taken (c .1) (length (c .0)) (ap (λ (u : Two ℕ). u .1) same ∙ ap (λ (u : Bool). sourceBy u stages) (sym f))
-          (ap (λ (u : Two ℕ). length (u .0)) same ∙ long .0))
-          ∙ ap (λ (u : Two ℕ). stageOf p k m w (u .1)) same) (kept ∙ ap (λ (u : Two ℕ). u .1) same)
+      go : (t : Bool) → eqb (k % 2) 0 ≡ t → Called t p k m w stages r b → b ≡ across t (stageOf p k m w) stages
+      go true f (kept, s) = ap₂ (λ (d q : List ℕ). (d, q)) kept (settled _ _ _ _ _ s (taken true f _ (long .1)))
+      go false f (kept, s) = ap₂ (λ (d q : List ℕ). (d, q)) (settled _ _ _ _ _ s (taken false f _ (long .0))) kept
 
   -- a run leaves in both buffers what the stage calls, written alternately, leave there; then a single radix is copied back
   pub run-alternates : (ys : List ℕ) → length ys ≡ p .half → (r : Verdict) (b c : Two ℕ) → Runs p m w (xs, ys) r b → Alternately p m w (p .count) (xs, ys) c
       → b ≡ copiedBy (eqb (p .count) 1) c
   unfolding driven
   run-alternates ys e r b c s a =
-      settled _ _ _ _ _ s (run-taken ys e) ∙ ap (copiedBy (eqb (p .count) 1)) (sym (alternates ys e (p .count) (le-refl (p .count)) c a))
+      settled _ _ _ _ _ s (sym (run-taken h (length ys) e)) ∙ ap (copiedBy (eqb (p .count) 1)) (sym (alternates ys e (p .count) (le-refl (p .count)) c a))

@@ -1,5 +1,5 @@
 -- Laws of a run: its stages find what they ask for, and leave h remainders. Assumes nothing.
-use Rattle.sequences.proofs.Basics.{_≡_, sym, ap, _∙_, ℕ, zero, suc, _-_, _%_, _<_, _≤_, le-of-lt, mod-lt, arith, Bool, true, false, List, eqb, length}
+use Rattle.sequences.proofs.Basics.{_≡_, ap, _∙_, ℕ, zero, suc, _-_, _%_, _<_, _≤_, le-of-lt, mod-lt, arith, true, List, eqb, length}
 use Rattle.sequences.proofs.Basics.{eq-eqb, ne-eqb}
 use Rattle.counts.specs.Counts.{radix, stride}
 use Rattle.plan.specs.Record.{isPlanned}

@@ -4,27 +4,11 @@ use Rattle.refusal.proofs.Rows.{deciding}
 use Rattle.remainder.specs.Calls.{lentVerdict}
 use Rattle.remainder.proofs.inner.check.lent as fn
 
-returns-3 : fn.Tie.Need-returns-3
-unfolding lentVerdict
-returns-3 c = let apart = rw (c .before .power .ensures) at (c .if3 .taken) in search (deciding, apart) depth 8
-
-returns-4 : fn.Tie.Need-returns-4
-unfolding lentVerdict
-returns-4 c = let one = sym (c .before .before .power .ensures) ∙ c .before .if3 .left in search (deciding, one) depth 8
-
-returns-5 : fn.Tie.Need-returns-5
-unfolding lentVerdict
-returns-5 c = let one = sym (c .before .before .before .power .ensures) ∙ c .before .before .if3 .left in search (deciding, one) depth 8
-
-returns-6 : fn.Tie.Need-returns-6
-unfolding lentVerdict
-returns-6 c = let c4 = c .before .before .before .before in let one = sym (c4 .before .power .ensures) ∙ c4 .if3 .left in search (deciding, one) depth 10
-
-returns-7 : fn.Tie.Need-returns-7
-unfolding lentVerdict
-returns-7 c = let c4 = c .before .before .before .before in let one = sym (c4 .before .power .ensures) ∙ c4 .if3 .left in search (deciding, one) depth 10
-
 pub lent-spec : {M : Type 1} → fn.Statement.statement M
 unfolding lentVerdict
-lent-spec = fn.Tie.close (fn.Tie.spec (λ c. search deciding) (λ c. search deciding) (λ c κs. search needs) returns-3 returns-4 returns-5 (λ c κs. search needs)
-    returns-6 returns-7)
+lent-spec = fn.Tie.close (fn.Tie.spec (λ c. search deciding) (λ c. search deciding) (λ c κs. search needs)
+    (λ c. let apart = rw (c .before .power .ensures) at (c .if3 .taken) in search (deciding, apart) depth 8)
+    (λ c. let one = sym (c .before .before .power .ensures) ∙ c .before .if3 .left in search (deciding, one) depth 8)
+    (λ c. let one = sym (c .before .before .before .power .ensures) ∙ c .before .before .if3 .left in search (deciding, one) depth 8) (λ c κs. search needs)
+    (λ c. let c4 = c .before .before .before .before in let one = sym (c4 .before .power .ensures) ∙ c4 .if3 .left in search (deciding, one) depth 10)
+    (λ c. let c4 = c .before .before .before .before in let one = sym (c4 .before .power .ensures) ∙ c4 .if3 .left in search (deciding, one) depth 10))
