@@ -15,7 +15,7 @@ use Rattle.floats.specs.Complexes.{cell, paired}
 use Rattle.floats.specs.Scan.{firstUnfit}
 use Rattle.floats.specs.declared.complex.Complex.{Complex}
 use Rattle.kernel.specs.Floats.{floats, lentAt, stageOf}
-use Rattle.kernel.proofs.Widths.{place-lt}
+use Rattle.packing.proofs.Places.{place-lt}
 use Rattle.stage.specs.Calls.{Stages}
 use Rattle.stage.proofs.Same.{own-count}
 use Rattle.stage.proofs.Theorems.{stage-told, stage-left}

@@ -19,7 +19,7 @@ use Rattle.turn.specs.Turns.{+0}
 use Rattle.packing.specs.Places.{place}
 use Rattle.packing.proofs.Widths.{width-bounds}
 use Rattle.floats.specs.Complexes.{cell}
-use Rattle.kernel.proofs.Widths.{place-lt}
+use Rattle.packing.proofs.Places.{place-lt}
 use Rattle.stage.specs.Runs.{stageIn, runOf, lentTo}
 use Rattle.stage.proofs.Runs.{own-within}
 use Rattle.ends.specs.Ends.{endCell, endLent, ended, fftSteps, ifftSteps, preprocess-ifft, conjugated, zeros}

@@ -82,8 +82,8 @@ add-whole (fin s m e) nan a b v w l = absurd w
 add-whole (fin s m e) (inf t) a b v w l = absurd w
 add-whole (fin s m e) (fin t n d) a b v w l =
     let same : signed s (natAbs a) +ℤ signed t (natAbs b) ≡ a +ℤ b = ap₂ _+ℤ_ (v .1) (w .1) in
-    let value : (k : ℕ) {n d : ℕ} → n ≡ k * d → n * 1 ≡ k * d = λ k e. mul-one _ ∙ e in
-    rw (add-at binary32 (fin s m e) (fin t n d) s t (natAbs a) (natAbs b) 1 (zero-lt-suc 0) (refl, value _ (v .0)) (refl, value _ (w .0)))
+    rw (add-at binary32 (fin s m e) (fin t n d) s t (natAbs a) (natAbs b) 1 (zero-lt-suc 0) (refl, mul-one (m * up e) ∙ v .0)
+    (refl, mul-one (n * up d) ∙ w .0))
     (subst (IsWhole (sum binary32 s (natAbs a) t (natAbs b) 1)) same (sum-to s t (natAbs a) (natAbs b) (rw same l)))
 
 pub neg-whole : (x : Float) (a : ℤ) → IsWhole x a → IsWhole (neg x) (negℤ a)

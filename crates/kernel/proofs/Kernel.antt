@@ -1,11 +1,13 @@
--- What an iteration reads, and the outputs of its kernel. Assumes nothing.
+-- What an iteration reads, the outputs of its kernel, and a radix written out. Assumes nothing.
 use Rattle.sequences.proofs.Basics.{_≡_, refl, ap, ap₂, _∙_, ℕ, zero, suc, _+_, _-_, _*_, _/_, _%_, _≤_, _<_, zero-add, arith, Bool, true, false, List, [], _∷_}
-use Rattle.sequences.proofs.Basics.{eqb, getD, digits-lt, ne-eqb}
+use Rattle.sequences.proofs.Basics.{inl, inr, eqb, getD, digits-lt, ne-eqb}
 use lib.Ieee.{Float}
-use Rattle.sequences.specs.Lists.{tabulate}
-use Rattle.sequences.proofs.Tables.{getD-tabulate}
+use Rattle.radices.specs.Lists.{isRadix}
+use Rattle.radices.proofs.Products.{Radix, radix-is}
 use Rattle.schedule.specs.Stage.{kernelTurn, twiddledIn, read, total, plain, output}
+use Rattle.sequences.specs.Lists.{tabulate}
 use Rattle.schedule.proofs.Cells.{read-lt}
+use Rattle.sequences.proofs.Tables.{getD-tabulate}
 use Rattle.schedule.proofs.Sums as Sums
 use Rattle.turn.specs.Calls.{part}
 use Rattle.turn.specs.Turns.{turnOf}
@@ -13,7 +15,7 @@ use Rattle.turn.specs.declared.Turn.{Turn}
 use Rattle.floats.specs.declared.complex.Complex.{Complex}
 use Rattle.floats.specs.Complexes.{blank, plus, times, turnedBy, cell}
 use Rattle.kernel.specs.Floats.{floats}
-use Rattle.kernel.specs.Parts.{lentBy, untwiddled, kernelOf, readOf, outputOf}
+use Rattle.kernel.specs.Parts.{lentBy, untwiddled, kernelOf, readOf, outputOf, Sized}
 
 -- iteration i's cell q is there
 pub cell-room : (i q M r n : ℕ) → i < M → q < r → 2 * (M * r) ≤ n → 2 * (i + q * M) + 1 < n
@@ -72,3 +74,20 @@ module _ (lent : ℕ → ℕ → Complex) (j h s r : ℕ) (src : List Float) (d 
   pub output-same : (p : ℕ) → 0 < r → outputOf (eqb j 0) (h / r) r src lent i p ≡ output plain (lentBy lent) j (h / r) s r d i p
   unfolding output floats
   output-same p some = Sums.plain-same untwiddled (lentBy lent) (λ u w. refl) r _ _ p some (λ q l. (read-same q l, λ z. refl))
+
+-- ---- a radix written out
+
+-- a radix that is none of the others
+pub eight : {r : ℕ} → isRadix r ≡ true → (r ≡ 2 → ⊥) → (r ≡ 3 → ⊥) → (r ≡ 4 → ⊥) → (r ≡ 5 → ⊥) → (r ≡ 7 → ⊥) → r ≡ 8
+eight {r} k a b c d e = go (radix-is r k)
+  where
+    go : Radix r → r ≡ 8
+    go (inl x) = absurd (a x)
+    go (inr (inl x)) = absurd (b x)
+    go (inr (inr (inl x))) = absurd (c x)
+    go (inr (inr (inr (inl x)))) = absurd (d x)
+    go (inr (inr (inr (inr (inl x))))) = absurd (e x)
+    go (inr (inr (inr (inr (inr x))))) = x
+
+pub sized-at : {M r ns : ℕ} (ρ : ℕ) → r ≡ ρ → Sized M r ns → Sized M ρ ns
+sized-at ρ e k = rw e at k

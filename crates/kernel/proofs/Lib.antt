@@ -1,8 +1,2 @@
 -- The laws that the proofs share, by subject.
-pub mod Writes
 pub mod Kernel
-pub mod Places
-pub mod Batches
-pub mod Arms
-pub mod Widths
-pub mod Works

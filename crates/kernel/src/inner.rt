@@ -1,7 +1,2 @@
-// What other crates call under a proof, and the parts of it.
-pub mod first;
-pub mod fours;
+// What other crates call under a proof.
 pub mod kernel;
-pub mod lanes;
-pub mod lent;
-pub mod stage;

@@ -2,7 +2,7 @@
 -- Assumes nothing.
 use Rattle.sequences.proofs.Basics.{_≡_, refl, sym, ap, _∙_, ℕ, suc, _+_, _-_, _*_, _/_, _%_, _≤_, _<_, mod-lt, div-add-mod', div-lt-iff-lt-mul}
 use Rattle.sequences.proofs.Basics.{le-div-iff-mul-le, mul-le-mul-right, mod-mod-of-dvd, dvd-mul-right, mul-pos, arith, Bool, true, false, ltb, digits-div}
-use Rattle.sequences.proofs.Basics.{digits-mod, digits-lt, lt-ltb, le-ltb, ltb-true, ltb-false}
+use Rattle.sequences.proofs.Basics.{digits-mod, digits-lt, lt-ltb, le-ltb, ltb-true, ltb-false, div-one, mod-one, decLe, _⊎_, ⊎-elim}
 use Rattle.schedule.proofs.Cells.{pos-right}
 use Rattle.packing.specs.Places.{inLanes, place, iterationAt, numberAt, Stands, Found}
 
@@ -116,3 +116,30 @@ module _ (M r W : ℕ) (width : 0 < W) where
     -- at each place stands a twiddle
     pub found : Found M r W (iterationAt M r W p) (numberAt M r W p) p
     found = below-or-not p (inLanes M W * (r - 1)) lane-found lone-found
+
+-- a place is one of those of the stage
+pub place-lt : (M r W i q : ℕ) → 0 < W → i < M → 0 < q → q < r → place M r W i q < M * (r - 1)
+place-lt M r W i q width li first last = stands M r W width i q first last li .inside
+
+-- ---- the widths one by one
+
+-- at width 1 they stand one after the other
+one-place : (M r i q : ℕ) → place M r 1 i q ≡ i * (r - 1) + (q - 1)
+one-place M r i q = pick (decLe (M / 1 * 1) i)
+  where
+    pick : Dec (M / 1 * 1 ≤ i) → place M r 1 i q ≡ i * (r - 1) + (q - 1)
+    pick (yes l) = lone-place M r 1 i q l
+    pick (no l) = lane-place M r 1 i q (omega (arith, l)) ∙ rw (div-one i, mod-one i) (omega arith)
+
+-- at width 2 those of one iteration are evenly spaced: in whole lanes, and after them
+pub place-in : (M r W i u : ℕ) → W ≡ 2 → i - i % 2 + W ≤ M → place M r W i (u + 1) ≡ (i - i % 2) * (r - 1) + i % 2 + u * W
+place-in M r W i u two l =
+    let e : u + 1 - 1 ≡ u = omega arith in let b : i - i % 2 ≡ i / 2 * 2 = omega arith in
+    rw (two, b) (lane-place M r 2 i (u + 1) (omega (arith, two)) ∙ rw e (omega arith))
+
+pub place-past : (M r W i u : ℕ) → W ≡ 2 → M < i - i % 2 + W → place M r W i (u + 1) ≡ i * (r - 1) + u * 1
+place-past M r W i u two l = rw two (lone-place M r 2 i (u + 1) (omega (arith, two)) ∙ omega arith)
+
+-- side by side: at width 1, and at width 4 after the whole lanes
+pub beside : (M r W i q : ℕ) → (W ≡ 1) ⊎ (W ≡ 4) → (W ≡ 4 → M / 4 * 4 ≤ i) → place M r W i q ≡ i * (r - 1) + (q - 1)
+beside M r W i q which past = ⊎-elim (λ one. rw one (one-place M r i q)) (λ four. rw four (lone-place M r 4 i q (past four))) which

@@ -1,6 +1,7 @@
 -- How the code walks a stage's columns, and that it makes the stage. Assumes nothing.
 use Rattle.sequences.proofs.Basics.{_≡_, sym, ap, _∙_, ℕ, _+_, _*_, _/_, _%_, _^_, _<_, _≤_, add-mod-right, add-div-right, mod-lt, mul-div-left}
-use Rattle.sequences.proofs.Basics.{mul-le-mul, div-add-mod', div-le-self, le-of-lt, div-lt-iff-lt-mul, le-div-iff-mul-le, lt-of-le-ne, arith, true, false≢true, List, length, getD}
+use Rattle.sequences.proofs.Basics.{mul-le-mul, div-add-mod', div-le-self, le-of-lt, div-lt-iff-lt-mul, le-div-iff-mul-le, lt-of-le-ne, arith, true, false≢true}
+use Rattle.sequences.proofs.Basics.{List, length, getD}
 use Rattle.sequences.proofs.Basics.{digits-lt}
 use Rattle.radices.specs.Lists.{isRadix}
 use Rattle.counts.specs.Counts.{stride}

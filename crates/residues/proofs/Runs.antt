@@ -8,7 +8,8 @@ use Rattle.plan.proofs.Bounds.{plan-radix-bounds}
 use Rattle.schedule.specs.Buffers.{alternated}
 use Rattle.schedule.specs.Plans.{inUse}
 use Rattle.schedule.specs.Stage.{plain, total, output, stageBy, stage, run}
-use Rattle.schedule.proofs.Cells.{length-stage, getD-tabulate}
+use Rattle.schedule.proofs.Cells.{length-stage}
+use Rattle.sequences.proofs.Tables.{getD-tabulate}
 use Rattle.schedule.proofs.Buffers.{sourceBy, source-run, both-long}
 use Rattle.schedule.proofs.Plans.{use-radix}
 use Rattle.residues.specs.Parts.{Workable}

@@ -7,7 +7,7 @@ pub use native.Mathlib.Nat.{add-zero, div-add-mod', div-div-eq-div-mul, div-eq-o
 pub use native.Mathlib.Nat.{div-mul-le-self, div-one, div-self, dvd-mul-left, dvd-mul-right, dvd-of-mod-eq-zero, dvd-trans, eq-of-mul-eq-mul-right}
 pub use native.Mathlib.Nat.{eq-or-lt-of-le, le-add-left, le-add-right, le-antisymm, le-dest, le-div-iff-mul-le, le-mul-of-pos-right, le-of-dvd, le-of-eq}
 pub use native.Mathlib.Nat.{le-of-lt, le-of-mul-le-mul-left, le-of-mul-le-mul-right, le-of-suc-le-suc, le-refl, le-step, le-trans, lt-irrefl, lt-of-le-of-lt}
-pub use native.Mathlib.Nat.{lt-of-lt-of-le, lt-of-not-le, mod-eq-of-lt, mod-eq-zero-of-dvd, mod-le, mod-lt, mod-mod, mod-mod-of-dvd, mod-one}
+pub use native.Mathlib.Nat.{lt-of-lt-of-le, lt-of-not-le, mod-eq-of-lt, mod-eq-zero-of-dvd, mod-lt, mod-mod, mod-mod-of-dvd, mod-one}
 pub use native.Mathlib.Nat.{mul-add-mod-self-right, mul-assoc, mul-comm, mul-div-cancel, mul-div-le, mul-div-left, mul-le-mul, mul-le-mul-left}
 pub use native.Mathlib.Nat.{mul-le-mul-right, mul-left-comm, mul-lt-mul-of-pos-right, mul-mod-left, mul-one, mul-pos, mul-right-comm, mul-sub, mul-zero}
 pub use native.Mathlib.Nat.{not-le-of-lt, not-suc-le-zero, one-mul, pow-suc, pow-succ', pow-zero, sub-add-cancel, sub-le, suc-add, suc-mul, zero-add}

@@ -11,7 +11,7 @@ use Rattle.schedule.proofs.Buffers.{even-next, odd-next, driven-copied, driven-
 use Rattle.schedule.proofs.Cells.{length-stage}
 use Rattle.floats.proofs.Flat.{length-flat}
 use Rattle.kernel.specs.Floats.{stageOf}
-use Rattle.kernel.specs.Parts.{Workable}
+use Rattle.float_stage.specs.Parts.{Workable}
 use Rattle.stage.specs.Runs.{ownOf, stageIn, Drivable, Steppable}
 
 -- the twiddles of stage k end within those of all stages

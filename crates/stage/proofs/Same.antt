@@ -20,7 +20,7 @@ use Rattle.floats.specs.declared.complex.Complex.{Complex}
 use Rattle.floats.specs.Complexes.{cx, times, cell, paired, flat}
 use Rattle.floats.proofs.Flat.{paired-flat, flat-paired}
 use Rattle.kernel.specs.Floats.{floats, houseFloats, lentAt, stageOf}
-use Rattle.kernel.proofs.Widths.{place-lt}
+use Rattle.packing.proofs.Places.{place-lt}
 use Rattle.stage.specs.Runs.{ownOf, stageIn, runOf, lentTo, turning, Agree, AgreeAll}
 
 module _ (lent lent′ : ℕ → ℕ → ℕ → Complex) (j h n s r : ℕ) (parts : h ≡ n * (s * r)) (ps : 0 < s) (pr : 0 < r)

@@ -21,7 +21,7 @@ use Rattle.packing.proofs.Widths.{width-bounds}
 use Rattle.twiddle.proofs.Verdicts.{Taken, taken}
 use Rattle.floats.specs.Complexes.{cx, paired, flat}
 use Rattle.kernel.specs.Floats.{houseFloats, lentAt, stageOf}
-use Rattle.kernel.specs.Parts.{Workable}
+use Rattle.float_stage.specs.Parts.{Workable}
 use Rattle.stage.specs.Calls.{stageVerdict, Stages}
 use Rattle.stage.specs.Runs.{ownOf, stageIn, runOf, lentTo, turning, Agree, AgreeAll}
 use Rattle.stage.proofs.Accepted.{accepted-any-width}

@@ -6,7 +6,7 @@ use Rattle.refusal.specs.declared.Verdict.the-variants.{Accepted}
 use Rattle.refusal.proofs.Rows.{accepted}
 use Rattle.plan.specs.declared.Record.{Record}
 use Rattle.floats.specs.Scan.{firstUnfit}
-use Rattle.kernel.specs.Parts.{Workable}
+use Rattle.float_stage.specs.Parts.{Workable}
 use Rattle.stage.specs.Calls.{stageVerdict}
 
 -- that it is lent what its work asks for, and that its numbers fit

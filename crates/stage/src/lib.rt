@@ -1,8 +1,8 @@
 // The float stages of a plan, one by a checked call and all by a driver, equal to the schedule operation by operation.
 pub mod inner;
 
+use float_stage::inner::stage::work;
 use inner::check::lent;
-use kernel::inner::stage::work;
 use plan::Record;
 use refusal::Verdict;
 ghost use Rattle.stage.specs.Calls.{Stages};

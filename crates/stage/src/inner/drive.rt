@@ -2,8 +2,8 @@
 use counts::Buffer;
 use counts::inner::stages::result_in;
 use counts::inner::stages::twiddle_count;
+use float_stage::inner::stage::work;
 use floats::inner::words::paste;
-use kernel::inner::stage::work;
 use plan::Record;
 ghost use mathlib.Core.Path.{_≡_};
 ghost use mathlib.Core.List.{List};

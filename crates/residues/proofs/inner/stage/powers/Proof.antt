@@ -1,6 +1,6 @@
 -- `residues::inner::stage::powers` meets its contract. Assumes nothing.
 use Rattle.sequences.proofs.Basics.{_≡_, refl, _∙_, ℕ, _+_, _-_, _^_, _%_, _≤_, _<_, arith, length-set, length, getD, needs}
-use Rattle.schedule.proofs.Fill.{set-more}
+use Rattle.sequences.proofs.Tables.{set-more}
 use Rattle.powers.proofs.Powers.{power-none, next-power, product-fits, below-mod}
 use Rattle.residues.proofs.inner.stage.powers as fn
 

@@ -1,0 +1,80 @@
+// The lent twiddles of sixteen iterations: read where they stand, or, packed for width 2, fetched from their places, one iteration after the other.
+use floats::inner::cells::get;
+use floats::inner::cells::put;
+ghost use mathlib.Core.Path.{_≡_};
+ghost use mathlib.Core.Bool.{true, false};
+ghost use mathlib.Core.Logic.{_⊎_};
+ghost use Prim.Native.Nat.{ℕ, _+_, _-_, _*_, _<_, _≤_};
+ghost use lib.ListN.{length, drop};
+ghost use Rattle.packing.specs.Places.{isWidth};
+ghost use Rattle.floats.specs.Complexes.{cell};
+ghost use Rattle.kernel.specs.Floats.{lentAt};
+ghost use Rattle.lanes.specs.Parts.{Fetched, Wrote};
+ghost use Rattle.float_stage.specs.Parts.{Lending};
+
+// n cells of tw from `from` on, every step-th, to the cells of t from `at` on.
+fn gather(tw: &[f32], t: &mut [f32], at: usize, from: usize, n: usize, step: usize)
+    requires { ⌜ (2 * (at + n) ≤ length (now t)) × ((u : ℕ) → u < n → 2 * (from + u * step) + 1 < length (now tw)) ⌝ }
+    ensures { λ _. ⌜ Wrote (λ u. cell (now (tw .entry)) (from + u * step)) at n (now (t .entry)) (now (t .exit)) ⌝ }
+{
+    let mut u = 0;
+    while u < n {
+        let z = get(tw, from + u * step);
+        put(t, at + u, z);
+        u += 1;
+    }
+}
+
+// The twiddles of iteration i, packed for width 2, to those of iteration j of t.
+fn fetch_one(tw: &[f32], t: &mut [f32], j: usize, i: usize, m: usize, r: usize, w: usize)
+    requires { ⌜ Lending m r (length (now tw)) (length (now t)) × (w ≡ 2) × (i < m) × (j < 16) ⌝ }
+    ensures { λ _. ⌜ Wrote (λ u. lentAt m r w (now (tw .entry)) i (u + 1)) (j * (r - 1)) (r - 1) (now (t .entry)) (now (t .exit)) ⌝ }
+{
+    let d = r - 1;
+    let lane = i % 2;
+    if i - lane + w <= m {
+        gather(tw, t, j * d, (i - lane) * d + lane, d, w);
+    } else {
+        gather(tw, t, j * d, i * d, d, 1);
+    }
+}
+
+// The twiddles of the len iterations from i on, where they are wanted.
+pub fn fetch(
+    tw: &[f32],
+    t: &mut [f32],
+    i: usize,
+    m: usize,
+    len: usize,
+    r: usize,
+    w: usize,
+    here: bool,
+)
+    requires { ⌜ Lending m r (length (now tw)) (length (now t)) × (here ≡ false → w ≡ 2) × (i + len ≤ m) × (len ≤ 16) ⌝ }
+    ensures { λ _. ⌜ (here ≡ false → Fetched i len r (lentAt m r w (now (tw .entry))) (now (t .exit))) ⌝ }
+{
+    if here {
+        return;
+    }
+    let mut j = 0;
+    while j < len {
+        fetch_one(tw, t, j, i + j, m, r, w);
+        j += 1;
+    }
+}
+
+// Whether the twiddles of an iteration that is in no whole lanes of 4 stand side by side.
+pub fn stand(w: usize) -> bool
+    requires { ⌜ isWidth w ≡ true ⌝ }
+    ensures { λ b. ⌜ (b ≡ true → (w ≡ 1) ⊎ (w ≡ 4)) × (b ≡ false → w ≡ 2) ⌝ }
+{
+    w == 1 || w == 4
+}
+
+// The words of tw from `from` on, if they stand there, or those fetched.
+pub fn lent<'a>(tw: &'a [f32], t: &'a [f32], here: bool, from: usize) -> &'a [f32]
+    requires { ⌜ from ≤ length (now tw) ⌝ }
+    ensures { λ p. ⌜ (here ≡ true → now p ≡ drop from (now (tw .entry))) × (here ≡ false → now p ≡ now (t .entry)) ⌝ }
+{
+    if here { &tw[from..] } else { t }
+}

@@ -1,0 +1,2 @@
+// The work of a float stage.
+pub mod inner;

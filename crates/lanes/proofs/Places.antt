@@ -1,0 +1,34 @@
+-- The outputs of a later stage reach the lanes and, a row of a block at a time, their cells. Assumes nothing.
+use Rattle.sequences.proofs.Basics.{_≡_, ap, _∙_, ℕ, suc, _+_, _-_, _*_, _/_, _%_, _≤_, _<_, add-assoc, div-lt-iff-lt-mul, mul-le-mul-right, suc-mul, mul-comm}
+use Rattle.sequences.proofs.Basics.{arith, ℕ-discrete, List}
+use lib.Ieee.{Float}
+use Rattle.floats.specs.declared.complex.Complex.{Complex}
+use Rattle.lanes.specs.Parts.{lane, Held, Saved, InBlock, Blocks}
+
+-- row p of a block has room
+pub row-room : (i n s r nd p : ℕ) → InBlock i n s r nd → p < r → 2 * (i / s * (s * r) + i % s + p * s + n) ≤ nd
+row-room i n s r nd p b l =
+    let m : suc p * s ≤ r * s = mul-le-mul-right s l in
+    omega (arith, m, suc-mul p s, mul-comm r s, b .one, b .room)
+
+-- the block of iteration i has room
+pub block-room : (i M s r nd : ℕ) → Blocks M s r nd → i < M → 2 * (i / s * (s * r) + s * r) ≤ nd
+block-room i M s r nd b l =
+    let c : i / s < M / s = div-lt-iff-lt-mul (b .stride) .1 (rw (b .whole) at l) in
+    let d : (i / s + 1) * (s * r) ≤ M / s * (s * r) = mul-le-mul-right (s * r) (omega arith) in
+    let e : M * r ≡ M / s * (s * r) = ap (λ (n : ℕ). n * r) (b .whole) ∙ omega arith in
+    omega (arith, d, e, b .room)
+
+-- the lanes from j on
+pub held-from : (i len r : ℕ) (v : ℕ → ℕ → Complex) (re im : List Float) (j n : ℕ) → j + n ≤ len → Held i len r v re im
+    → (t p : ℕ) → t < n → p < r → lane re im (16 * p + j + t) ≡ v (i + j + t) p
+held-from i len r v re im j n l held t p lt lp = rw (add-assoc (16 * p) j t, add-assoc i j t) (held (j + t) p (omega arith) lp)
+
+-- one more lane
+pub held-step : (i j r : ℕ) (v : ℕ → ℕ → Complex) (re im re′ im′ : List Float) → j < 16 → Saved (v (i + j)) j r re im re′ im′ → Held i j r v re im
+    → Held i (j + 1) r v re′ im′
+held-step i j r v re im re′ im′ lj w before j′ p lj′ lp = pick (ℕ-discrete j′ j)
+  where
+    pick : Dec (j′ ≡ j) → lane re′ im′ (16 * p + j′) ≡ v (i + j′) p
+    pick (yes e) = rw e (w .cells .inside p lp)
+    pick (no f) = w .cells .outside (16 * p + j′) (λ q lq e. f (omega arith)) ∙ before j′ p (omega (arith, f)) lp

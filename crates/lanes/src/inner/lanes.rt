@@ -1,0 +1,213 @@
+// Sixteen iterations of a later stage at a time, in lanes: output p of lane j stands at 16 * p + j of two arrays of 128.
+use floats::complex::Complex;
+use floats::inner::cells::put;
+use kernel::inner::kernel::cells;
+use kernel::inner::kernel::output;
+ghost use mathlib.Core.Path.{_≡_};
+ghost use mathlib.Core.Bool.{true, false};
+ghost use Prim.Native.Nat.{ℕ, _+_, _-_, _*_, _/_, _%_, _^_, _<_, _≤_};
+ghost use lib.ListN.{length, getD};
+ghost use Rattle.radices.specs.Lists.{isRadix};
+ghost use Rattle.floats.specs.Complexes.{blank};
+ghost use Rattle.kernel.specs.Parts.{kernelOf, outputOf, Sized};
+ghost use Rattle.lanes.specs.Parts.{Fetched, Wrote, Done, lane, Held, Saved, InBlock, Stored, Batch, Even, Evenly, Placed};
+
+// The r outputs of the cells c to lane j, each stored when it is made: the even ones, then the odd ones, which share most with each other.
+pub fn save(c: [Complex; 8], re: &mut [f32], im: &mut [f32], j: usize, r: usize)
+    requires { ⌜ (isRadix r ≡ true) × (2 ≤ r) × (r ≤ 8) × (j < 16) × (length (now re) ≡ 128) × (length (now im) ≡ 128) ⌝ }
+    ensures { λ _. ⌜ Saved (kernelOf r (λ q. getD c q blank)) j r (now (re .entry)) (now (im .entry)) (now (re .exit)) (now (im .exit)) ⌝ }
+{
+    let mut p = 0;
+    while p < r {
+        let z = output(c, r, p);
+        let k = 16 * p + j;
+        re[k] = z.re;
+        im[k] = z.im;
+        p += 2;
+    }
+    let mut q = 1;
+    while q < r {
+        let z = output(c, r, q);
+        let k = 16 * q + j;
+        re[k] = z.re;
+        im[k] = z.im;
+        q += 2;
+    }
+}
+
+// Iterations i to i + len, to the lanes, each radix of a later stage written out: those below 7 to one pair of arrays, the others to another.
+pub fn lanes(
+    src: &[f32],
+    tw: &[f32],
+    ra: &mut [f32],
+    ia: &mut [f32],
+    rb: &mut [f32],
+    ib: &mut [f32],
+    i: usize,
+    m: usize,
+    len: usize,
+    r: usize,
+)
+    requires { ⌜ Sized m r (length (now src)) × (i + len ≤ m) × (len ≤ 16) × (2 * (len * (r - 1)) ≤ length (now tw)) × (length (now ra) ≡ 128) × (length (now ia) ≡ 128) × (length (now rb) ≡ 128) × (length (now ib) ≡ 128) × (3 ≤ r) ⌝ }
+    ensures { λ _. ⌜ ((lent : ℕ → ℕ → Complex) → Fetched i len r lent (now (tw .entry)) → (r < 7 → Held i len r (outputOf false m r (now (src .entry)) lent) (now (ra .exit)) (now (ia .exit))) × (7 ≤ r → Held i len r (outputOf false m r (now (src .entry)) lent) (now (rb .exit)) (now (ib .exit)))) ⌝ }
+{
+    let mut j = 0;
+    while j < len {
+        let k = i + j;
+        match r {
+            3 => save(cells(src, tw, k, j, 2, 1, m, 3, false), ra, ia, j, 3),
+            4 => save(cells(src, tw, k, j, 3, 1, m, 4, false), ra, ia, j, 4),
+            5 => save(cells(src, tw, k, j, 4, 1, m, 5, false), ra, ia, j, 5),
+            7 => save(cells(src, tw, k, j, 6, 1, m, 7, false), rb, ib, j, 7),
+            _ => save(cells(src, tw, k, j, 7, 1, m, 8, false), rb, ib, j, 8),
+        }
+        j += 1;
+    }
+}
+
+// Cell k of the lanes.
+fn held(re: &[f32], im: &[f32], k: usize) -> Complex
+    requires { ⌜ (k < 128) × (length (now re) ≡ 128) × (length (now im) ≡ 128) ⌝ }
+    ensures { λ z. ⌜ z ≡ lane (now (re .entry)) (now (im .entry)) k ⌝ }
+{
+    Complex {
+        re: re[k],
+        im: im[k],
+    }
+}
+
+// n cells of the lanes from k on, to the cells from `at` on.
+fn row(re: &[f32], im: &[f32], k: usize, dst: &mut [f32], at: usize, n: usize)
+    requires { ⌜ (k + n ≤ 128) × (length (now re) ≡ 128) × (length (now im) ≡ 128) × (2 * (at + n) ≤ length (now dst)) ⌝ }
+    ensures { λ _. ⌜ Wrote (λ t. lane (now (re .entry)) (now (im .entry)) (k + t)) at n (now (dst .entry)) (now (dst .exit)) ⌝ }
+{
+    let mut t = 0;
+    while t < n {
+        let z = held(re, im, k + t);
+        put(dst, at + t, z);
+        t += 1;
+    }
+}
+
+// The same for 1, 2 or 4 cells, each written out.
+fn piece(re: &[f32], im: &[f32], k: usize, dst: &mut [f32], at: usize, n: usize)
+    requires { ⌜ Batch n × (0 < n) × (k + n ≤ 128) × (length (now re) ≡ 128) × (length (now im) ≡ 128) × (2 * (at + n) ≤ length (now dst)) ⌝ }
+    ensures { λ _. ⌜ Wrote (λ t. lane (now (re .entry)) (now (im .entry)) (k + t)) at n (now (dst .entry)) (now (dst .exit)) ⌝ }
+{
+    match n {
+        4 => row(re, im, k, dst, at, 4),
+        2 => row(re, im, k, dst, at, 2),
+        _ => row(re, im, k, dst, at, 1),
+    }
+}
+
+// The outputs of the n iterations from i on, which are of one block, from the lanes from j on to their cells, the first at `at`.
+pub fn rows(
+    re: &[f32],
+    im: &[f32],
+    j: usize,
+    dst: &mut [f32],
+    at: usize,
+    i: usize,
+    n: usize,
+    s: usize,
+    r: usize,
+)
+    requires { ⌜ InBlock i n s r (length (now dst)) × (at ≡ i / s * (s * r) + i % s) × Batch n × (0 < n) × (j + n ≤ 16) × (length (now re) ≡ 128) × (length (now im) ≡ 128) ⌝ }
+    ensures { λ _. ⌜ ((v : ℕ → ℕ → Complex) → ((t p : ℕ) → t < n → p < r → lane (now (re .entry)) (now (im .entry)) (16 * p + j + t) ≡ v (i + t) p) → Done s r v (now (dst .entry)) i → Done s r v (now (dst .exit)) (i + n)) ⌝ }
+{
+    let mut p = 0;
+    while p < r {
+        piece(re, im, 16 * p + j, dst, at + p * s, n);
+        p += 1;
+    }
+}
+
+// The smaller of two.
+pub fn least(a: usize, b: usize) -> usize
+    ensures { λ r. ⌜ (r ≤ a) × (r ≤ b) × (0 < a → 0 < b → 0 < r) × (a < b → r ≡ a) × (b ≤ a → r ≡ b) ⌝ }
+{
+    if a < b { a } else { b }
+}
+
+// How many cells are stored at once where that divides the stride; 0 where it is found anew each time.
+pub fn evenly(s: usize) -> usize
+    ensures { λ e. ⌜ Batch e × Even e s ⌝ }
+{
+    if s % 4 == 0 {
+        return 4;
+    }
+    if s == 2 {
+        return 2;
+    }
+    0
+}
+
+// How many are stored at once of a left in the block and b in the lanes.
+pub fn batch(even: usize, a: usize, b: usize) -> usize
+    requires { ⌜ Batch even × Even even a × Even even b × (0 < a) × (0 < b) ⌝ }
+    ensures { λ n. ⌜ Batch n × (0 < n) × (n ≤ a) × (n ≤ b) × Even even n ⌝ }
+{
+    if even > 0 {
+        return even;
+    }
+    let n = least(a, b);
+    if n > 3 {
+        return 4;
+    }
+    if n > 1 {
+        return 2;
+    }
+    1
+}
+
+// Where the first output of an iteration goes: the start of its block, and its column there.
+pub struct Place {
+    pub block: usize,
+    pub col: usize,
+}
+
+// The place n iterations on, of the same block or at the start of the next.
+pub fn onward(at: Place, n: usize, s: usize, r: usize) -> Place
+    requires { ⌜ (at .col + n ≤ s) × (at .block + s * r < 2 ^ 64) ⌝ }
+    ensures { λ b. ⌜ (at .col + n < s → (b .block ≡ at .block) × (b .col ≡ at .col + n)) × (at .col + n ≡ s → (b .block ≡ at .block + s * r) × (b .col ≡ 0)) ⌝ }
+{
+    let col = at.col + n;
+    if col == s {
+        return Place {
+            block: at.block + s * r,
+            col: 0,
+        };
+    }
+    Place {
+        block: at.block,
+        col,
+    }
+}
+
+// The outputs of the len iterations from i on, from the lanes to their cells, some of one block at a time; and the place of the next.
+pub fn store(
+    re: &[f32],
+    im: &[f32],
+    dst: &mut [f32],
+    from: Place,
+    i: usize,
+    m: usize,
+    len: usize,
+    s: usize,
+    r: usize,
+    even: usize,
+) -> Place
+    requires { ⌜ Stored i m len s r (length (now dst)) × Evenly even len s × Placed even i s r (from .block) (from .col) × (length (now re) ≡ 128) × (length (now im) ≡ 128) ⌝ }
+    ensures { λ q. ⌜ Placed even (i + len) s r (q .block) (q .col) × ((v : ℕ → ℕ → Complex) → Held i len r v (now (re .entry)) (now (im .entry)) → Done s r v (now (dst .entry)) i → Done s r v (now (dst .exit)) (i + len)) ⌝ }
+{
+    let mut at = from;
+    let mut j = 0;
+    while j < len {
+        let n = batch(even, s - at.col, len - j);
+        rows(re, im, j, dst, at.block + at.col, i + j, n, s, r);
+        at = onward(at, n, s, r);
+        j += n;
+    }
+    at
+}
