@@ -12,13 +12,8 @@ module _ (M r W i whole : ℕ) (e : whole ≡ inLanes M W) (k : ℕ) where
   pub lone-apart : whole ≤ i → place M r W i (suc k) ≡ i * (r - 1) + k * 1
   lone-apart l = lone-place M r W i (suc k) (rw (← e) l) ∙ rw suc-less (omega arith)
 
--- ---- the numbers are small
-
-pub width-small : (W r : ℕ) → W ≤ 4 → r ≤ 8 → W * (r - 1) ≤ 28
-width-small W r b c = mul-le-mul {n₂ = 4} {m₂ = 7} b (omega arith)
-
-pub lane-small : (i W r : ℕ) → i < 4096 → W ≤ 4 → r ≤ 8 → i / W * (W * (r - 1)) ≤ 4096 * 28
-lane-small i W r a b c = mul-le-mul {n₂ = 4096} {m₂ = 28} (omega (arith, div-le-self i W)) (width-small W r b c)
-
-pub lone-small : (i r : ℕ) → i < 4096 → r ≤ 8 → i * (r - 1) ≤ 4096 * 7
-lone-small i r a c = mul-le-mul {n₂ = 4096} {m₂ = 7} (omega arith) (omega arith)
+-- the numbers are small
+pub small : (i W r : ℕ) → i < 4096 → W ≤ 4 → r ≤ 8 → (W * (r - 1) ≤ 28) × (i / W * (W * (r - 1)) ≤ 4096 * 28) × (i * (r - 1) ≤ 4096 * 7)
+small i W r a b c =
+    let row : W * (r - 1) ≤ 28 = mul-le-mul {n₂ = 4} {m₂ = 7} b (omega arith) in
+    (row, mul-le-mul {n₂ = 4096} {m₂ = 28} (omega (arith, div-le-self i W)) row, mul-le-mul {n₂ = 4096} {m₂ = 7} (omega arith) (omega arith))

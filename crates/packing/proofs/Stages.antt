@@ -9,7 +9,7 @@ use Rattle.counts.specs.Counts.{radix, stride, twiddleCount, twiddleStart, stag
 use Rattle.radices.specs.Lists.{product}
 use Rattle.plan.specs.declared.Record.{Record}
 use Rattle.plan.proofs.Bounds.{plan-half, plan-sized, plan-radix-bounds}
-use Rattle.counts.proofs.Counts.{count-later, start-next, start-up}
+use Rattle.counts.proofs.Counts.{count-later, start-next, start-up, start-few}
 use Rattle.schedule.specs.Plans.{inUse}
 use Rattle.schedule.proofs.Plans.{use-stride, use-radix, use-parts, use-stride-some}
 use Rattle.turn.specs.Turns.{housed}
@@ -27,6 +27,22 @@ module _ (p : Record) (W words : ℕ) (h : Packable p W words) where
   -- where the words of stage j start
   abbrev start : ℕ → ℕ
   start j = 2 * twiddleStart (p .half) (p .radices) j
+
+  -- Its words lie in the slice, from 2 * a to 2 * b, and the numbers that tell where are small
+  module _ (j : ℕ) (known : j < p .count) (a b : ℕ) (ea : a ≡ twiddleStart (p .half) (p .radices) j)
+      (eb : b ≡ twiddleStart (p .half) (p .radices) (j + 1)) where
+    pub part-bounds : (a ≤ b) × (2 * b ≤ words) × (b ≤ 400000) × (0 < getD (p .radices) j 0)
+    part-bounds =
+        let last : j + 1 + (p .count - (j + 1)) ≡ p .count = omega arith in
+        let up : twiddleStart (p .half) (p .radices) (j + 1) ≤ stageTwiddles p = rw last at (start-up (p .half) (p .radices) (j + 1) (p .count - (j + 1))) in (
+          omega (arith, start-next (p .half) (p .radices) j),
+          omega (arith, up, h .long),
+          omega (arith, start-few p (h .planned) (j + 1) (omega arith)),
+          omega (arith, plan-radix-bounds p (h .planned) j known),
+        )
+
+    pub part-room : (ys : List Float) → length ys ≡ words → length (midOf (2 * a) (2 * b - 2 * a) ys) ≡ start (j + 1) - start j
+    part-room ys e = mid-len (2 * a) (2 * b) ys (omega (arith, part-bounds, e)) ∙ rw (ea, eb)
 
   -- The numbers that the code finds for stage j
   module _ (j : ℕ) (later : 1 ≤ j) (known : j < p .count) (s r : ℕ) (es : s ≡ stride (p .radices) j) (er : r ≡ getD (p .radices) j 0) where
@@ -75,33 +91,21 @@ module _ (p : Record) (W words : ℕ) (h : Packable p W words) where
         at zero l = absurd (omega arith)
         at (suc j) l = refl
 
-    -- its words lie in the slice
-    pub part-up : start j ≤ start (j + 1)
-    part-up = omega (arith, start-next (p .half) (p .radices) j)
-
-    pub part-inside : start (j + 1) ≤ words
-    part-inside =
-        let last : j + 1 + (p .count - (j + 1)) ≡ p .count = omega arith in
-        let up : twiddleStart (p .half) (p .radices) (j + 1) ≤ stageTwiddles p = rw last at (start-up (p .half) (p .radices) (j + 1) (p .count - (j + 1))) in
-        omega (arith, up, h .long)
-
     -- The part of stage j, from 2 * a to 2 * b
     module _ (a b : ℕ) (ea : a ≡ twiddleStart (p .half) (p .radices) j) (eb : b ≡ twiddleStart (p .half) (p .radices) (j + 1)) where
-      pub part-room : (ys : List Float) → length ys ≡ words → length (midOf (2 * a) (2 * b - 2 * a) ys) ≡ start (j + 1) - start j
-      part-room ys e = mid-len (2 * a) (2 * b) ys (omega (arith, part-inside, eb, e)) ∙ rw (ea, eb)
-
       -- one stage more
       pub stages-next : (ys part out : List Float) → length ys ≡ words → take (start j) ys ≡ stagesWords (p .half) (inUse p) W j
           → part ≡ packed (p .half / r) r W (twiddle s r) → out ≡ putMid (2 * a) (2 * b - 2 * a) ys part
           → (length out ≡ words) × (take (start (j + 1)) out ≡ stagesWords (p .half) (inUse p) W (j + 1))
       unfolding stagesWords
       stages-next ys part out e done d eo =
+          let bounds = part-bounds j known a b ea eb in
           let here : out ≡ putMid (start j) (start (j + 1) - start j) ys part = eo ∙ ap₂ (λ (n m : ℕ). putMid (2 * n) (2 * m - 2 * n) ys part) ea eb in
           let room : length part ≡ start (j + 1) - start j = ap length d ∙ length-packed (p .half / r) r W (twiddle s r) ∙ sym part-long in
-          let front : length (take (start j) ys) ≡ start j = length-take-le (start j) ys (omega (arith, part-inside, part-up)) in
-          let seam : length (take (start j) ys ++ part) ≡ start (j + 1) = omega (arith, length-append (take (start j) ys) part, part-up) in (
+          let front : length (take (start j) ys) ≡ start j = length-take-le (start j) ys (omega arith) in
+          let seam : length (take (start j) ys ++ part) ≡ start (j + 1) = omega (arith, length-append (take (start j) ys) part) in (
             ap length here ∙ same-len-mid (start j) (start (j + 1) - start j) ys part (room
-                ∙ sym (mid-len (start j) (start (j + 1)) ys (omega (arith, part-inside)))) ∙ e,
+                ∙ sym (mid-len (start j) (start (j + 1)) ys (omega arith))) ∙ e,
             ap (take (start (j + 1))) (here ∙ sym (append-assoc (take (start j) ys) part _)) ∙ take-at (take (start j) ys ++ part) _ (start (j + 1)) seam
                 ∙ ap₂ (λ (xs zs : List Float). xs ++ zs) done (d ∙ stage-words) ∙ ap (stagesWords (p .half) (inUse p) W) (sym (add-one j)),
           )
