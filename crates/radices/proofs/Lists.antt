@@ -1,8 +1,8 @@
 -- Laws of lists of radices: first places step by step, running products, counts, arrays. Assumes nothing.
 use Rattle.sequences.proofs.Basics.{_≡_, refl, sym, ap, _∙_, ℕ, zero, suc, _+_, _-_, _*_, _^_, _<_, _≤_, add-zero, mul-one, one-mul, mul-assoc, mul-le-mul}
 use Rattle.sequences.proofs.Basics.{add-one, arith, List, [], _∷_, _++_, append-assoc, length, length-set, getD, set, take, drop, replicate, length-append}
-use Rattle.sequences.proofs.Basics.{length-drop, drop-of-length-le, length-replicate, take-all, drop-cons, take-suc, take-append-seam, take-length}
-use Rattle.sequences.proofs.Basics.{drop-append-add, set-append-left, set-at, paste, paste-suc, eq-eqb, ne-eqb, lt-ltb, le-ltb}
+use Rattle.sequences.proofs.Basics.{drop-of-length-le, length-replicate, drop-cons, take-suc, take-append-seam, take-length, drop-append-add, set-append-left}
+use Rattle.sequences.proofs.Basics.{set-at, paste, eq-eqb, ne-eqb, lt-ltb, le-ltb}
 use Rattle.radices.specs.declared.Radices.{Radices}
 use Rattle.radices.specs.declared.inner.lists.Running.{Running}
 use Rattle.radices.specs.Lists.{product, firstOver, largest, countOf, padded, listed, runningProduct}
@@ -53,11 +53,6 @@ pub over-none : (xs : List ℕ) (p i : ℕ) → i ≤ length xs → length xs �
 unfolding firstOver
 over-none xs p i g h e = e ∙ ap (λ (l : List ℕ). i + firstOver p l) (drop-of-length-le xs h) ∙ add-zero i
 
--- one more element is laid over an array
-pub paste-next : (d : List ℕ) (at : ℕ) (s : List ℕ) (i v : ℕ) (out : List ℕ) → at + i < length d → i < length s → getD s i 0 ≡ v
-    → out ≡ paste d at s i → set out (at + i) v ≡ paste d at s (i + 1)
-paste-next d at s i v out h g t e = rw (e, ← t) (paste-suc d at s i 0 h g ∙ ap (λ (n : ℕ). paste d at s n) (sym (add-one i)))
-
 drop-replicate : (n k a : ℕ) → drop n (replicate k a) ≡ replicate (k - n) a
 drop-replicate zero k a = ap (λ (m : ℕ). replicate m a) {x = k} {y = k - 0} (omega arith)
 drop-replicate (suc n) zero a = ap (λ (m : ℕ). replicate m a) {x = 0} {y = 0 - suc n} (omega arith)
@@ -105,10 +100,6 @@ listed-is xs n es p q = rw (p, q)
 pub set-padded : (xs : List ℕ) (at v : ℕ) → at < length xs → set (padded xs) at v ≡ padded (set xs at v)
 unfolding padded
 set-padded xs at v h = rw (length-set xs at v) (set-append-left xs (replicate (13 - length xs) 0) at v h)
-
--- the part of a list from k on, as a slice has it
-pub take-rest : (k : ℕ) (xs : List ℕ) → take (length xs - k) (drop k xs) ≡ drop k xs
-take-rest k xs = take-all (length xs - k) (drop k xs) (omega (arith, length-drop k xs))
 
 -- a run of one radix laid behind the list that an array holds
 pub filled-padded : (xs prev r : List ℕ) (at k v : ℕ) → length xs ≡ at → at + k ≤ 13 → prev ≡ padded xs → r ≡ paste prev at (replicate k v) k

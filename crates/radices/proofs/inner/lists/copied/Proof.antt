@@ -1,6 +1,6 @@
 -- `radices::inner::lists::copied` meets its contract. Assumes nothing.
 use Rattle.sequences.proofs.Basics.{_≡_, refl, ap, _∙_, ℕ, _+_, _-_, _<_, _≤_, length, getD, paste, paste-zero, needs}
-use Rattle.radices.proofs.Lists.{paste-next}
+use Rattle.sequences.proofs.Pasted.{paste-next}
 use Rattle.radices.proofs.inner.lists.copied as fn
 
 abbrev Inv-loop : fn.Tie.InvT-loop
@@ -16,7 +16,7 @@ loop-again c =
       search needs,
       (
         search needs,
-        (l .inv .1 .1 .0, paste-next (a .to) (a .at) (a .list .now) (l .i) (getD (a .list .now) (l .i) 0) (l .out) f (search needs) refl (l .inv .1 .1 .1)),
+        (l .inv .1 .1 .0, paste-next (a .to) (a .at) (a .list .now) (l .i) (getD (a .list .now) (l .i) 0) 0 (l .out) f (search needs) refl (l .inv .1 .1 .1)),
       ),
     )
 

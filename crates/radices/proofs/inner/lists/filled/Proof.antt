@@ -1,6 +1,6 @@
 -- `radices::inner::lists::filled` meets its contract. Assumes nothing.
 use Rattle.sequences.proofs.Basics.{_≡_, ap, _∙_, ℕ, _+_, _-_, _<_, _≤_, arith, length, replicate, length-replicate, getD-replicate, paste, paste-zero, needs}
-use Rattle.radices.proofs.Lists.{paste-next}
+use Rattle.sequences.proofs.Pasted.{paste-next}
 use Rattle.radices.proofs.inner.lists.filled as fn
 
 abbrev Inv-loop : fn.Tie.InvT-loop
@@ -19,7 +19,7 @@ loop-again c =
         search needs,
         (
           l .inv .1 .1 .0,
-          paste-next (a .to) (a .at) (replicate (a .k) (a .v)) (l .i) (a .v) (l .out) f g (getD-replicate (a .k) (l .i) (a .v) 0 (search needs))
+          paste-next (a .to) (a .at) (replicate (a .k) (a .v)) (l .i) (a .v) 0 (l .out) f g (getD-replicate (a .k) (l .i) (a .v) 0 (search needs))
               (l .inv .1 .1 .1),
         ),
       ),
