@@ -1,7 +1,8 @@
 -- Laws of scaling: the smallest power of two that reaches the target, the radices that it adds, and how many fit. Assumes nothing.
 use Rattle.sequences.proofs.Basics.{_≡_, refl, sym, ap, _∙_, ℕ, zero, suc, _+_, _-_, _*_, _/_, _%_, _^_, _<_, _≤_, one-mul, mul-one, mul-assoc, mul-le-mul}
 use Rattle.sequences.proofs.Basics.{mul-le-mul-left, pow-suc, pow-succ', mul-comm, lt-of-not-le, add-one, arith, decLe, Bool, true, false, cond, dite, List, []}
-use Rattle.sequences.proofs.Basics.{_∷_, _++_, append-nil, append-assoc, eqb, ltb, length, set, replicate, length-append, length-replicate, pow-add, pow-lt}
+use Rattle.sequences.proofs.Basics.{_∷_, _++_, append-nil, append-assoc, eqb, ltb, length, set, paste, replicate, length-append, length-replicate, pow-add}
+use Rattle.sequences.proofs.Basics.{pow-lt}
 use Rattle.sequences.proofs.Basics.{pow-mono, eq-eqb, ne-eqb, le-leb, lt-leb, lt-ltb, le-ltb}
 use Rattle.refusal.specs.Refusal.{Row, _⇒_, verdict}
 use Rattle.refusal.specs.declared.Refusal.{Refusal}
@@ -13,8 +14,9 @@ use Rattle.radices.specs.declared.Radices.{Radices}
 use Rattle.scaling.specs.declared.Scaled.{Scaled}
 use Rattle.radices.specs.declared.inner.lists.Running.{Running}
 use Rattle.radices.specs.Lists.{product, largest, isRadix, firstBad, firstOver, padded, listed, runningProduct}
+use Rattle.scaling.specs.Parts.{Scalable}
 use Rattle.scaling.specs.Scaling.{gainFrom, gain, over, gained, listRows, scaleVerdict, refusedScaling, acceptedScaling, scaledBy, scaled}
-use Rattle.radices.proofs.Lists.{product-append, listed-is, push-padded, running-all}
+use Rattle.radices.proofs.Lists.{product-append, listed-is, push-padded, running-all, paste-empty, filled-padded}
 use Rattle.radices.proofs.Products.{Radical, radical-append, radical-replicate, radical, product-replicate, product-positive, over-none-small, pow-eight}
 use Rattle.radices.proofs.Products.{entries-few, bad-none, over-none-at}
 
@@ -158,20 +160,21 @@ module _ (xs : List ℕ) (g : ℕ) (few : length (xs ++ gained g) ≤ 13) where
   pub grown-room : (g % 3 ≡ 0 → ⊥) → length xs + g / 3 < 13
   grown-room n = omega (arith, few, length-append xs (gained g), length-gained g, over-some (g % 3) n)
 
-module _ (xs es : List ℕ) (g : ℕ) (e : es ≡ padded (xs ++ replicate (g / 3) 8)) where
-  long : length (xs ++ replicate (g / 3) 8) ≡ length xs + g / 3
-  long = simp (length-append, length-replicate)
+-- xs laid into an array, then the 8s
+module _ (xs : List ℕ) (g : ℕ) (few : length (xs ++ gained g) ≤ 13) {to es : List ℕ} (c : to ≡ paste (replicate 13 0) 0 xs (length xs))
+    (f : es ≡ paste to (length xs) (replicate (g / 3) 8) (g / 3)) where
+  padding : (es ≡ padded (xs ++ replicate (g / 3) 8)) × (length (xs ++ replicate (g / 3) 8) ≡ length xs + g / 3)
+  padding = let front = grown-front xs g few in filled-padded xs to es (length xs) (g / 3) 8 refl front (c ∙ paste-empty xs (omega arith)) f
 
   pub grown-exact : g % 3 ≡ 0 → _≡_ {A = Radices} (record { count = length xs + g / 3; entries = es }) (listed (xs ++ gained g))
-  grown-exact z = rw (gained-none g z) (listed-is (xs ++ replicate (g / 3) 8) _ _ (sym long) e)
+  grown-exact z = rw (gained-none g z) (listed-is (xs ++ replicate (g / 3) 8) _ _ (sym (padding .1)) (padding .0))
 
-  pub grown-pushed : (v : ℕ) (r : Radices) → gained g ≡ replicate (g / 3) 8 ++ (v ∷ []) → length xs + g / 3 < 13
-      → r .count ≡ length xs + g / 3 + 1 → r .entries ≡ set es (length xs + g / 3) v → r ≡ listed (xs ++ gained g)
-  grown-pushed v r f h p q =
+  pub grown-pushed : (v : ℕ) {r : Radices} → (g % 3 ≡ 0 → ⊥) → gained g ≡ replicate (g / 3) 8 ++ (v ∷ [])
+      → (r .count ≡ length xs + g / 3 + 1) × (r .entries ≡ set es (length xs + g / 3) v) → r ≡ listed (xs ++ gained g)
+  grown-pushed v {r} n h (p, q) =
       let front = xs ++ replicate (g / 3) 8 in
-      listed-is (front ++ (v ∷ [])) (r .count) (r .entries) (p ∙ sym (length-append front (v ∷ []) ∙ ap (λ (n : ℕ). n + 1) long))
-      (q ∙ ap (λ (l : List ℕ). set l (length xs + g / 3) v) e ∙ push-padded front (length xs + g / 3) v long h)
-      ∙ ap listed (append-assoc xs (replicate (g / 3) 8) (v ∷ []) ∙ ap (λ (l : List ℕ). xs ++ l) (sym f))
+      rw (h, ← append-assoc) (listed-is (front ++ (v ∷ [])) (r .count) (r .entries) (p ∙ simp (length-append, length-replicate))
+      (q ∙ rw (padding .0) (push-padded front (length xs + g / 3) v (padding .1) (grown-room xs g few n))))
 
 pub power-small : (i : ℕ) → i ≤ 13 → 2 ^ i ≤ 8192
 power-small i h = pow-mono {j = 13} h
@@ -181,21 +184,37 @@ power-next i = sym (pow-suc 2 i) ∙ ap (λ (n : ℕ). 2 ^ n) (sym (add-one i))
 
 -- ---- an accepted list
 
-module _ (from : ℕ) (xs : List ℕ) where
-  -- what an accepted list is
-  pub record Base : Type 0 where
-    pub radices : Radical xs
-    pub whole : firstOver 1 xs ≡ length xs
-    pub small : product xs ≤ largest
+-- what it is
+pub record Base (xs : List ℕ) : Type 0 where
+  pub radices : Radical xs
+  pub whole : firstOver 1 xs ≡ length xs
+  pub small : product xs ≤ largest
 
-  pub check-base : verdict (listRows from xs) ≡ Accepted → Base
-  check-base e =
-      let bad : length xs ≤ firstBad xs = search accepted in let over : length xs ≤ firstOver 1 xs = search accepted in
-      record {
-        radices = radical xs (bad-none xs bad);
-        whole = over-none-at xs over;
-        small = rw one-mul at (over-none-small 1 xs (omega arith) (over-none-at xs over));
-      }
+check-base : (from : ℕ) (xs : List ℕ) → verdict (listRows from xs) ≡ Accepted → Base xs
+check-base from xs e =
+    let bad : length xs ≤ firstBad xs = search accepted in let over : length xs ≤ firstOver 1 xs = search accepted in
+    record {
+      radices = radical xs (bad-none xs bad);
+      whole = over-none-at xs over;
+      small = rw one-mul at (over-none-small 1 xs (omega arith) (over-none-at xs over));
+    }
+
+-- r is its running product
+module _ {xs : List ℕ} (b : Base xs) {r : Running} (e : r ≡ runningProduct xs) where
+  base-product : r .product ≡ product xs
+  base-product = ap (λ (x : Running). x .product) (e ∙ running-all xs (b .whole))
+
+  base-bounds : (0 < r .product) × (r .product ≤ 8192)
+  base-bounds = rw base-product (product-positive xs (b .radices), b .small)
+
+  base-fits : (g : ℕ) → 2 ^ g * r .product ≤ largest → length (xs ++ gained g) ≤ 13
+  base-fits g h = scaled-few xs g (b .radices) (rw base-product at h)
+
+-- a power of two of at most 13 and a product within the largest length
+power-fits : (g p n : ℕ) → p ≡ 2 ^ g → g ≤ 13 → n ≤ 8192 → p * n < 2 ^ 64
+power-fits g p n e h l =
+    let x : p * n ≤ 8192 * 8192 = mul-le-mul {n₂ = 8192} {m₂ = 8192} (rw e (power-small g h)) l in
+    omega arith
 
 -- ---- the answer
 
@@ -217,47 +236,53 @@ module _ (target : ℕ) (ins outs : List ℕ) where
     scale-out why r p e = p ∙ by-verdict (Refused why)
         (accepted-on (listRows 0 ins) (listRows (length ins) outs ++ last) a ∙ refused-on (listRows (length ins) outs) last why e)
 
-    module _ (b : verdict (listRows (length ins) outs) ≡ Accepted) where
-      on-last : scaleVerdict target ins outs ≡ verdict last
-      unfolding scaleVerdict
-      on-last = accepted-on (listRows 0 ins) (listRows (length ins) outs ++ last) a ∙ accepted-on (listRows (length ins) outs) last b
+-- with i and o the running products of both lists, g the gain and p its power
+module _ {target : ℕ} {ins outs : List ℕ} (h : Scalable target ins outs) {i : Running} (ei : i ≡ runningProduct ins) where
+  in-base : Base ins
+  in-base = check-base 0 ins (h .ins)
 
-      module _ (g p i o : ℕ) (e : g ≡ gain target (product ins)) (f : p ≡ 2 ^ g) (q : i ≡ product ins) (w : o ≡ product outs) where
-        pub scale-large : largest < p * o → (r : Scaled) → r ≡ refusedScaling (TooLarge (length ins + length outs)) → r ≡ scaled target ins outs
-        scale-large h r x = x ∙ by-verdict (Refused (TooLarge (length ins + length outs)))
-            (on-last ∙ simp (lt-ltb largest (2 ^ gain target (product ins) * product outs) (rw (f, e, w) at h)))
+  pub in-bounds : (0 < i .product) × (i .product ≤ 8192)
+  in-bounds = base-bounds in-base ei
 
-        pub scale-accepted : p * o ≤ largest → (x y : Radices) → x ≡ listed (ins ++ gained g) → y ≡ listed (outs ++ gained g)
-            → _≡_ {A = Scaled} (record { verdict = Accepted; p = p; «in_product» = p * i; «out_product» = p * o; «in_list» = x; «out_list» = y })
+  module _ {g : ℕ} (eg : g ≡ gain target (i .product)) where
+    pub in-few : g ≤ 13
+    in-few = rw eg (gain-few target (i .product) (h .low) (in-bounds .0) (in-bounds .1))
+
+    pub in-fits : length (ins ++ gained g) ≤ 13
+    in-fits = base-fits in-base ei g (rw eg (gain-small target (i .product) (h .low) (in-bounds .1)))
+
+    module _ {p : ℕ} (ep : p ≡ 2 ^ g) where
+      pub in-power : p * i .product < 2 ^ 64
+      in-power = power-fits g p _ ep in-few (in-bounds .1)
+
+      module _ {o : Running} (eo : o ≡ runningProduct outs) where
+        out-base : Base outs
+        out-base = check-base (length ins) outs (h .outs)
+
+        pub out-power : p * o .product < 2 ^ 64
+        out-power = power-fits g p _ ep in-few (base-bounds out-base eo .1)
+
+        pub out-fits : p * o .product ≤ largest → length (outs ++ gained g) ≤ 13
+        out-fits l = base-fits out-base eo g (rw ep at l)
+
+        on-last : scaleVerdict target ins outs ≡ verdict (last target ins outs)
+        unfolding scaleVerdict
+        on-last = accepted-on (listRows 0 ins) (listRows (length ins) outs ++ last target ins outs) (h .ins)
+            ∙ accepted-on (listRows (length ins) outs) (last target ins outs) (h .outs)
+
+        same-gain : g ≡ gain target (product ins)
+        same-gain = eg ∙ ap (gain target) (base-product in-base ei)
+
+        scaled-out : p * o .product ≡ 2 ^ gain target (product ins) * product outs
+        scaled-out = rw (ep, same-gain, base-product out-base eo)
+
+        pub scale-large : largest < p * o .product → {r : Scaled} → r ≡ refusedScaling (TooLarge (length ins + length outs)) → r ≡ scaled target ins outs
+        scale-large l x = x ∙ by-verdict target ins outs (Refused (TooLarge (length ins + length outs))) (on-last ∙ simp (lt-ltb largest _ (rw scaled-out at l)))
+
+        pub scale-accepted : p * o .product ≤ largest → {x y : Radices} → x ≡ listed (ins ++ gained g) → y ≡ listed (outs ++ gained g)
+            → _≡_ {A = Scaled}
+            (record { verdict = Accepted; p = p; «in_product» = p * i .product; «out_product» = p * o .product; «in_list» = x; «out_list» = y })
             (scaled target ins outs)
         unfolding acceptedScaling
-        scale-accepted h x y u v = rw (u, v, f, q, w, e)
-            (by-verdict Accepted (on-last ∙ simp (le-ltb largest (2 ^ gain target (product ins) * product outs) (rw (f, e, w) at h))))
-
--- ---- the numbers on the way
-
-module _ (from : ℕ) (xs : List ℕ) (b : Base from xs) (r : Running) (e : r ≡ runningProduct xs) where
-  pub base-product : r .product ≡ product xs
-  base-product = ap (λ (x : Running). x .product) (e ∙ running-all xs (b .whole))
-
-  pub base-bounds : (0 < r .product) × (r .product ≤ 8192)
-  base-bounds = rw base-product (product-positive xs (b .radices), b .small)
-
-  pub base-fits : (g : ℕ) → 2 ^ g * r .product ≤ largest → length (xs ++ gained g) ≤ 13
-  base-fits g h = scaled-few xs g (b .radices) (rw base-product at h)
-
-  module _ (target : ℕ) (h : target ≤ 4096) (g : ℕ) (f : g ≡ gain target (r .product)) where
-    pub in-gain : g ≡ gain target (product xs)
-    in-gain = f ∙ ap (gain target) base-product
-
-    pub in-few : g ≤ 13
-    in-few = rw f (gain-few target (r .product) h (base-bounds .0) (base-bounds .1))
-
-    pub in-small : 2 ^ g * r .product ≤ largest
-    in-small = rw f (gain-small target (r .product) h (base-bounds .1))
-
--- a power of two of at most 13 and a product within the largest length
-pub power-fits : (g p n : ℕ) → p ≡ 2 ^ g → g ≤ 13 → n ≤ 8192 → p * n < 2 ^ 64
-power-fits g p n e h l =
-    let x : p * n ≤ 8192 * 8192 = mul-le-mul {n₂ = 8192} {m₂ = 8192} (rw e (power-small g h)) l in
-    omega arith
+        scale-accepted l u v = rw (u, v, scaled-out, ep, base-product in-base ei, same-gain)
+            (by-verdict target ins outs Accepted (on-last ∙ simp (le-ltb largest _ (rw scaled-out at l))))

@@ -12,9 +12,9 @@ ghost use Prim.Native.Nat.{_+_, _*_, _^_, _≤_, _<_};
 ghost use lib.ListN.{length, set};
 ghost use mathlib.Core.List.{_++_};
 ghost use Rattle.radices.specs.Lists.{listed};
+ghost use Rattle.scaling.specs.Parts.{Scalable};
 ghost use Rattle.scaling.specs.Scaling.{gain as Scaling·gain, gained, listRows, refusedScaling, scaled};
 ghost use Rattle.refusal.specs.Refusal.{verdict};
-ghost use Rattle.refusal.specs.declared.Verdict.the-variants.{Accepted};
 
 // The smallest g with 2 ^ g times the base at least the target.
 pub fn gain(target: usize, base: usize) -> usize
@@ -118,7 +118,7 @@ fn check(from: usize, list: &[u8]) -> Verdict
 
 // Two lists of radices scaled, with their products.
 fn scaled_lists(target: usize, in_list: &[u8], out_list: &[u8]) -> Scaled
-    requires { ⌜ (target ≤ 4096) × ((verdict (listRows 0 (now «in_list»)) ≡ Accepted) × (verdict (listRows (length (now «in_list»)) (now «out_list»)) ≡ Accepted)) ⌝ }
+    requires { ⌜ Scalable target (now «in_list») (now «out_list») ⌝ }
     ensures { λ r. ⌜ r ≡ scaled target (now («in_list» .entry)) (now («out_list» .entry)) ⌝ }
 {
     let ins = running_product(in_list);

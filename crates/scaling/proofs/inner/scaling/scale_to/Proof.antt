@@ -15,7 +15,11 @@ returns-2 c = let c4 = c .before .before .before .before in let c7 = c4 .before 
 
 scaled-lists-requires : fn.Tie.Need-scaled-lists-requires
 scaled-lists-requires c κs = let c3 = c .before .before .before in let c5 = c3 .before .before in
-    (c5 .before .before .before .pre, (sym (c5 .check .ensures) ∙ c3 .enum-told .given .1, sym (c .before .before .check2 .ensures) ∙ c .enum-told2 .given .1))
+    record {
+      low = c5 .before .before .before .pre;
+      ins = sym (c5 .check .ensures) ∙ c3 .enum-told .given .1;
+      outs = sym (c .before .before .check2 .ensures) ∙ c .enum-told2 .given .1;
+    }
 
 pub scale-to-spec : {M : Type 1} → fn.Statement.statement M
 scale-to-spec = fn.Tie.close
