@@ -35,4 +35,5 @@ index-one r i p = rw (div-one i, mod-one i) (omega arith)
 
 -- the first stage: iteration i fills r cells from i * r on
 pub first-step : (r i : ℕ) (v : ℕ → ℕ → Complex) (ys ys′ : List Float) → Wrote (v i) (i * r) r ys ys′ → Done 1 r v ys i → Done 1 r v ys′ (i + 1)
-first-step r i v ys ys′ w = Fill.done-iteration 1 r v (omega arith) i (λ i′ p l f. omega (arith, f)) (Fill.wrote-as (λ p l. (sym (index-one r i p), refl)) (w .cells))
+first-step r i v ys ys′ w = Fill.done-iteration 1 r v (omega arith) i (λ i′ p l f. omega (arith, f))
+    (Fill.wrote-as (λ p l. (sym (index-one r i p), refl)) (w .cells))

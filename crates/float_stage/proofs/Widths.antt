@@ -70,23 +70,25 @@ fetched-here i n M r W tw which past j q lj l lq =
     cell-drop tw (i * (r - 1)) (j * (r - 1) + (q - 1)) ∙ ap (cell tw) (e ∙ sym (beside M r W (i + j) q which (λ four. omega (arith, past four))))
 
 -- in whole lanes of 4
-pub fetched4-here : (i n M r : ℕ) (tw : List Float) → i % 4 ≡ 0 → n ≤ 4 → i + n ≤ M / 4 * 4
-    → Fetched4 i n r (lentAt M r 4 tw) (take (length tw - 2 * (i * (r - 1))) (drop (2 * (i * (r - 1))) tw))
-fetched4-here i n M r tw whole few inside = rw (rest (2 * (i * (r - 1))) tw) all
-  where
-    all : Fetched4 i n r (lentAt M r 4 tw) (drop (2 * (i * (r - 1))) tw)
-    all j q lj l lq =
-        let d : (i + j) / 4 ≡ i / 4 = omega arith in let m : (i + j) % 4 ≡ j = omega arith in
-        let b : i ≡ i / 4 * 4 = omega arith in
-        let c : i * (r - 1) ≡ i / 4 * (4 * (r - 1)) = ap (λ (k : ℕ). k * (r - 1)) b ∙ omega arith in
-        let p : place M r 4 (i + j) q ≡ i / 4 * (4 * (r - 1)) + ((q - 1) * 4 + j) = lane-place M r 4 (i + j) q (omega arith) ∙ rw (d, m) refl in
-        let e : i * (r - 1) + (j * 1 + (q - 1) * 4) ≡ i / 4 * (4 * (r - 1)) + ((q - 1) * 4 + j) = omega (arith, c) in
-        cell-drop tw (i * (r - 1)) (j * 1 + (q - 1) * 4) ∙ ap (cell tw) (e ∙ sym p)
+fetched4-here : (i n M r : ℕ) (tw : List Float) → i % 4 ≡ 0 → n ≤ 4 → i + n ≤ M / 4 * 4 → Fetched4 i n r (lentAt M r 4 tw) (drop (2 * (i * (r - 1))) tw)
+fetched4-here i n M r tw whole few inside j q lj l lq =
+    let d : (i + j) / 4 ≡ i / 4 = omega arith in let m : (i + j) % 4 ≡ j = omega arith in
+    let b : i ≡ i / 4 * 4 = omega arith in
+    let c : i * (r - 1) ≡ i / 4 * (4 * (r - 1)) = ap (λ (k : ℕ). k * (r - 1)) b ∙ omega arith in
+    let p : place M r 4 (i + j) q ≡ i / 4 * (4 * (r - 1)) + ((q - 1) * 4 + j) = lane-place M r 4 (i + j) q (omega arith) ∙ rw (d, m) refl in
+    let e : i * (r - 1) + (j * 1 + (q - 1) * 4) ≡ i / 4 * (4 * (r - 1)) + ((q - 1) * 4 + j) = omega (arith, c) in
+    cell-drop tw (i * (r - 1)) (j * 1 + (q - 1) * 4) ∙ ap (cell tw) (e ∙ sym p)
+
+pub four-part : (i n M r : ℕ) (tw p : List Float) {from : ℕ} → from ≡ 2 * (i * (r - 1)) → p ≡ drop from tw → i % 4 ≡ 0 → n ≡ 4 → i + n ≤ M / 4 * 4
+    → 2 * (M * (r - 1)) ≤ length tw → Fetched4 i n r (lentAt M r 4 tw) p × (2 * (4 * (r - 1)) ≤ length p)
+four-part i n M r tw p at is whole four inside room = rw (is, at)
+    (fetched4-here i n M r tw whole (omega arith) inside, here-room i 4 M r tw (omega arith) room)
 
 -- read where they stand or fetched
-pub lent-part : (here : Bool) (i n M r W : ℕ) (tw t p : List Float) → (here ≡ true → (W ≡ 1) ⊎ (W ≡ 4)) → (W ≡ 4 → M / 4 * 4 ≤ i)
-    → i + n ≤ M → n ≤ 16 → r ≤ 8 → 2 * (M * (r - 1)) ≤ length tw → length t ≡ 224
-    → (here ≡ true → p ≡ drop (2 * (i * (r - 1))) tw) × (here ≡ false → p ≡ t) → (here ≡ false → Fetched i n r (lentAt M r W tw) t)
+pub lent-part : (here : Bool) (i n M r W : ℕ) (tw t p : List Float) {from : ℕ} → from ≡ 2 * (i * (r - 1)) → (here ≡ true → (W ≡ 1) ⊎ (W ≡ 4))
+    → (W ≡ 4 → M / 4 * 4 ≤ i) → i + n ≤ M → n ≤ 16 → r ≤ 8 → 2 * (M * (r - 1)) ≤ length tw → length t ≡ 224
+    → (here ≡ true → p ≡ drop from tw) × (here ≡ false → p ≡ t) → (here ≡ false → Fetched i n r (lentAt M r W tw) t)
     → Fetched i n r (lentAt M r W tw) p × (2 * (n * (r - 1)) ≤ length p)
-lent-part true i n M r W tw t p which past l ln lr room lt is f = rw (is .0 refl) (fetched-here i n M r W tw (which refl) past, here-room i n M r tw l room)
-lent-part false i n M r W tw t p which past l ln lr room lt is f = rw (is .1 refl) (f refl, omega (arith, small-lanes n r ln lr, lt))
+lent-part true i n M r W tw t p at which past l ln lr room lt is f =
+    rw (is .0 refl, at) (fetched-here i n M r W tw (which refl) past, here-room i n M r tw l room)
+lent-part false i n M r W tw t p at which past l ln lr room lt is f = rw (is .1 refl) (f refl, omega (arith, small-lanes n r ln lr, lt))

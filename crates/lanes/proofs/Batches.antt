@@ -1,9 +1,9 @@
 -- How many cells are stored at once, the place that the next go to, and the iterations in lanes stored so. Assumes nothing.
-use Rattle.sequences.proofs.Basics.{_≡_, refl, sym, ap, _∙_, ℕ, _+_, _-_, _*_, _/_, _%_, _≤_, _<_, add-assoc, add-zero, div-add-mod', mod-lt, mul-le-mul-right}
-use Rattle.sequences.proofs.Basics.{arith, ℕ-discrete, List, length, digits-div, digits-mod}
+use Rattle.sequences.proofs.Basics.{_≡_, refl, sym, ap, ap₂, _∙_, ℕ, _+_, _-_, _*_, _/_, _%_, _≤_, _<_, add-assoc, add-zero, div-add-mod', mod-lt}
+use Rattle.sequences.proofs.Basics.{mul-le-mul-right, arith, ℕ-discrete, List, length, digits-div, digits-mod}
 use lib.Ieee.{Float}
 use Rattle.floats.specs.declared.complex.Complex.{Complex}
-use Rattle.lanes.specs.Parts.{Done, lane, Held, InBlock, Blocks, Stored, Batch, Even, Evenly, Placed}
+use Rattle.lanes.specs.Parts.{Done, lane, Held, InBlock, Blocks, Stored, Batch, Even, Evenly, Placed, Pairs, Paired, Waiting}
 use Rattle.lanes.proofs.Places.{block-room, held-from}
 
 -- so many are there
@@ -85,72 +85,81 @@ column-room e i M s r nd b l w =
 
 -- ---- the iterations in lanes stored in turn
 
--- the first j of the len iterations from i on are stored, and the next goes to column `col` of the block at `block`
-pub record Storing (e i len s r : ℕ) (re im ys₀ ys : List Float) (block col j : ℕ) : Type 0 where
-  pub fits : j ≤ len
+-- n more of one block, once those below lane j are stored
+module _ {e i M len s r nd block col j : ℕ} (st : Stored i M len s r nd) (v : Evenly e len s) (w : Waiting e i len s r block col j) (l : j < len) where
+  waiting-column : col < s
+  waiting-column = column-lt e (i + j) s r (st .blocks .stride) (w .placed)
+
+  pub waiting-asks : Batch e × Even e (s - col) × Even e (len - j) × (0 < s - col) × (0 < len - j)
+  waiting-asks = (v .batch, even-sub e s col (v .stride) (w .placed .even), even-sub e len j (v .lanes) (w .even), omega (arith, waiting-column), omega arith)
+
+  waiting-early : i + j < M
+  waiting-early = omega (arith, st .within)
+
+  pub waiting-room : (2 * (block + col) ≤ nd) × (2 * (block + s * r) ≤ nd)
+  waiting-room =
+      (column-room e (i + j) M s r _ (st .blocks) waiting-early (w .placed), placed-room e (i + j) M s r _ (st .blocks) waiting-early (w .placed))
+
+  module _ {n : ℕ} (b : Batch n × (0 < n) × (n ≤ s - col) × (n ≤ len - j) × Even e n) where
+    pub waiting-within : col + n ≤ s
+    waiting-within = omega (arith, b .2, waiting-column)
+
+    pub waiting-rows : InBlock (i + j) n s r nd × (block + col ≡ (i + j) / s * (s * r) + (i + j) % s) × (j + n ≤ 16)
+    waiting-rows = (
+      record {
+        stride = st .blocks .stride;
+        some = st .blocks .some;
+        few = st .blocks .few;
+        one = omega (arith, waiting-within, w .placed .column);
+        room = block-room (i + j) M s r _ (st .blocks) waiting-early;
+      },
+      ap₂ (λ (x y : ℕ). x + y) (w .placed .starts) (w .placed .column),
+      omega (arith, b .3, st .lanes),
+    )
+
+    pub waiting-next : {block′ col′ : ℕ} → (col + n < s → (block′ ≡ block) × (col′ ≡ col + n)) × (col + n ≡ s → (block′ ≡ block + s * r) × (col′ ≡ 0))
+        → Waiting e i len s r block′ col′ (j + n)
+    waiting-next moved =
+        record {
+          fits = omega (arith, b .3);
+          even = even-add e j n (w .even) (b .4);
+          placed = placed-on e i j s r block col n (st .blocks .stride) (b .4) (w .placed) waiting-within moved;
+        }
+
+    pub waiting-done : (re im ys ys′ : List Float)
+        → ((u : ℕ → ℕ → Complex) → ((t p : ℕ) → t < n → p < r → lane re im (16 * p + j + t) ≡ u (i + j + t) p) → Done s r u ys (i + j)
+        → Done s r u ys′ (i + j + n))
+        → (u : ℕ → ℕ → Complex) → Held i len r u re im → Done s r u ys (i + j) → Done s r u ys′ (i + (j + n))
+    waiting-done re im ys ys′ rows u held done i′ p li lp = rows u (held-from i len r u re im j n (omega (arith, b .3)) held) done i′ p (omega arith) lp
+
+-- the loop that stores all of them, from ys₀ on
+pub record Storing (e i len s r : ℕ) (ra ia rb ib ys₀ ys : List Float) (block col j : ℕ) : Type 0 where
+  pub waiting : Waiting e i len s r block col j
   pub size : length ys ≡ length ys₀
-  pub even : Even e j
-  pub placed : Placed e (i + j) s r block col
-  pub done : (v : ℕ → ℕ → Complex) → Held i len r v re im → Done s r v ys₀ i → Done s r v ys (i + j)
+  pub done : (v : ℕ → ℕ → Complex) → Paired i len r v ra ia rb ib → Done s r v ys₀ i → Done s r v ys (i + j)
 
-pub storing-none : {e i len s r block col : ℕ} {re im ys : List Float} → Evenly e len s → Placed e i s r block col → Storing e i len s r re im ys ys block col 0
-storing-none {e} {i} {len} {s} {r} v w =
-    record {
-      fits = omega arith;
-      size = refl;
-      even = even-none e len (v .lanes);
-      placed = rw (add-zero i) w;
-      done = λ v held done i′ p li lp. done i′ p (omega arith) lp;
-    }
+module _ {e i len s r block col : ℕ} {ra ia rb ib ys₀ : List Float} where
+  pub storing-none : Evenly e len s → Placed e i s r block col → Storing e i len s r ra ia rb ib ys₀ ys₀ block col 0
+  storing-none v w =
+      record {
+        waiting = record { fits = omega arith; even = even-none e len (v .lanes); placed = rw (add-zero i) w };
+        size = refl;
+        done = λ v held done i′ p li lp. done i′ p (omega arith) lp;
+      }
 
-module _ {e i M len s r block col j : ℕ} {re im ys₀ ys : List Float} (st : Stored i M len s r (length ys₀)) (v : Evenly e len s)
-    (w : Storing e i len s r re im ys₀ ys block col j) where
-  pub storing-column : col < s
-  storing-column = column-lt e (i + j) s r (st .blocks .stride) (w .placed)
+  module _ {j : ℕ} {ys : List Float} (w : Storing e i len s r ra ia rb ib ys₀ ys block col j) where
+    pub storing-asks : {M : ℕ} → Stored i M len s r (length ys₀) → Evenly e len s → j < len → Pairs ra ia rb ib
+        → Stored i M len s r (length ys) × Evenly e len s × Waiting e i len s r block col j × (j < len) × Pairs ra ia rb ib
+    storing-asks st v l pairs = (rw (w .size) st, v, w .waiting, l, pairs)
 
-  pub storing-all : len ≤ j → Placed e (i + len) s r block col × ((v : ℕ → ℕ → Complex) → Held i len r v re im → Done s r v ys₀ i → Done s r v ys (i + len))
-  storing-all l =
-      let all : j ≡ len = omega (arith, w .fits) in
-      (rw all at (w .placed), rw all at (w .done))
+    pub storing-next : {block′ col′ j′ : ℕ} {ys′ : List Float} → length ys′ ≡ length ys → Waiting e i len s r block′ col′ j′ × (j < j′)
+        × ((v : ℕ → ℕ → Complex) → Paired i len r v ra ia rb ib → Done s r v ys (i + j) → Done s r v ys′ (i + j′))
+        → Storing e i len s r ra ia rb ib ys₀ ys′ block′ col′ j′
+    storing-next size more =
+        record { waiting = more .0; size = size ∙ w .size; done = λ v held done. more .2 v held (w .done v held done) }
 
-  module _ (l : j < len) where
-    pub storing-asks : Batch e × Even e (s - col) × Even e (len - j) × (0 < s - col) × (0 < len - j)
-    storing-asks = (v .batch, even-sub e s col (v .stride) (w .placed .even), even-sub e len j (v .lanes) (w .even), omega (arith, storing-column), omega arith)
-
-    pub storing-room : (2 * (block + col) ≤ length ys₀) × (2 * (block + s * r) ≤ length ys₀)
-    storing-room =
-        let m : i + j < M = omega (arith, st .within) in
-        (column-room e (i + j) M s r _ (st .blocks) m (w .placed), placed-room e (i + j) M s r _ (st .blocks) m (w .placed))
-
-    -- n more of one block
-    module _ {n : ℕ} (b : Batch n × (0 < n) × (n ≤ s - col) × (n ≤ len - j) × Even e n) where
-      pub storing-within : col + n ≤ s
-      storing-within = omega (arith, b .2, storing-column)
-
-      pub storing-block : InBlock (i + j) n s r (length ys)
-      storing-block =
-          record {
-            stride = st .blocks .stride;
-            some = st .blocks .some;
-            few = st .blocks .few;
-            one = omega (arith, storing-within, w .placed .column);
-            room = omega (arith, block-room (i + j) M s r _ (st .blocks) (omega (arith, st .within)), w .size);
-          }
-
-      pub storing-lanes : j + n ≤ 16
-      storing-lanes = omega (arith, b .3, st .lanes)
-
-      pub storing-next : {block′ col′ : ℕ} {ys′ : List Float}
-          → ((v : ℕ → ℕ → Complex) → ((t p : ℕ) → t < n → p < r → lane re im (16 * p + j + t) ≡ v (i + j + t) p) → Done s r v ys (i + j)
-          → Done s r v ys′ (i + j + n))
-          → length ys′ ≡ length ys → (col + n < s → (block′ ≡ block) × (col′ ≡ col + n)) × (col + n ≡ s → (block′ ≡ block + s * r) × (col′ ≡ 0))
-          → Storing e i len s r re im ys₀ ys′ block′ col′ (j + n)
-      storing-next rows size moved =
-          let fits : j + n ≤ len = omega (arith, b .3) in
-          record {
-            fits = fits;
-            size = size ∙ w .size;
-            even = even-add e j n (w .even) (b .4);
-            placed = placed-on e i j s r block col n (st .blocks .stride) (b .4) (w .placed) storing-within moved;
-            done = λ v held done i′ p li lp. rows v (held-from i len r v re im j n fits held) (w .done v held done) i′ p (omega arith) lp;
-          }
+    pub storing-all : len ≤ j
+        → Placed e (i + len) s r block col × ((v : ℕ → ℕ → Complex) → Paired i len r v ra ia rb ib → Done s r v ys₀ i → Done s r v ys (i + len))
+    storing-all l =
+        let all : j ≡ len = omega (arith, w .waiting .fits) in
+        (rw all at (w .waiting .placed), rw all at (w .done))

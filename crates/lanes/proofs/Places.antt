@@ -1,9 +1,9 @@
 -- The outputs of a later stage reach the lanes and, a row of a block at a time, their cells. Assumes nothing.
 use Rattle.sequences.proofs.Basics.{_≡_, ap, _∙_, ℕ, suc, _+_, _-_, _*_, _/_, _%_, _≤_, _<_, add-assoc, div-lt-iff-lt-mul, mul-le-mul-right, suc-mul, mul-comm}
-use Rattle.sequences.proofs.Basics.{arith, ℕ-discrete, List}
+use Rattle.sequences.proofs.Basics.{arith, ℕ-discrete, decLe, List, length}
 use lib.Ieee.{Float}
 use Rattle.floats.specs.declared.complex.Complex.{Complex}
-use Rattle.lanes.specs.Parts.{lane, Held, Saved, InBlock, Blocks}
+use Rattle.lanes.specs.Parts.{lane, Held, Saved, Paired, InBlock, Blocks}
 
 -- row p of a block has room
 pub row-room : (i n s r nd p : ℕ) → InBlock i n s r nd → p < r → 2 * (i / s * (s * r) + i % s + p * s + n) ≤ nd
@@ -32,3 +32,21 @@ held-step i j r v re im re′ im′ lj w before j′ p lj′ lp = pick (ℕ-disc
     pick : Dec (j′ ≡ j) → lane re′ im′ (16 * p + j′) ≡ v (i + j′) p
     pick (yes e) = rw e (w .cells .inside p lp)
     pick (no f) = w .cells .outside (16 * p + j′) (λ q lq e. f (omega arith)) ∙ before j′ p (omega (arith, f)) lp
+
+-- lanes of two pairs, picked by the radix
+pub picked : (i n r : ℕ) (v : ℕ → ℕ → Complex) (ra ia rb ib p q : List Float) → (r < 7 → p ≡ ra) × (7 ≤ r → p ≡ rb) → (r < 7 → q ≡ ia) × (7 ≤ r → q ≡ ib)
+    → Paired i n r v ra ia rb ib → Held i n r v p q
+picked i n r v ra ia rb ib p q is-re is-im held = pick (decLe 7 r)
+  where
+    pick : Dec (7 ≤ r) → Held i n r v p q
+    pick (yes x) = rw (is-re .1 x, is-im .1 x) (held .1 x)
+    pick (no x) =
+        let l : r < 7 = omega (arith, x) in
+        rw (is-re .0 l, is-im .0 l) (held .0 l)
+
+pub picked-size : (r n : ℕ) (a b p : List Float) → (r < 7 → p ≡ a) × (7 ≤ r → p ≡ b) → length a ≡ n → length b ≡ n → length p ≡ n
+picked-size r n a b p is la lb = pick (decLe 7 r)
+  where
+    pick : Dec (7 ≤ r) → length p ≡ n
+    pick (yes x) = rw (is .1 x) lb
+    pick (no x) = rw (is .0 (omega (arith, x))) la

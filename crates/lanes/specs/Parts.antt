@@ -48,6 +48,17 @@ pub record Taken (T : ℕ → Type 0) (g : ℕ → Complex) (j : ℕ) (re im re�
 abbrev pub Saved : (g : ℕ → Complex) → (j n : ℕ) → (re im re′ im′ : List Float) → Type 0
 Saved g j n = Taken (λ p. p < n) g j
 
+-- two pairs of lists for lanes
+pub record Pairs (ra ia rb ib : List Float) : Type 0 where
+  pub size-ra : length ra ≡ 128
+  pub size-ia : length ia ≡ 128
+  pub size-rb : length rb ≡ 128
+  pub size-ib : length ib ≡ 128
+
+-- .. of which radices below 7 are held in the first
+abbrev pub Paired : (i n r : ℕ) → (ℕ → ℕ → Complex) → (ra ia rb ib : List Float) → Type 0
+Paired i n r v ra ia rb ib = (r < 7 → Held i n r v ra ia) × (7 ≤ r → Held i n r v rb ib)
+
 -- ---- where the outputs go
 
 -- n iterations from i on are of one block, which lies within nd words
@@ -91,3 +102,9 @@ pub record Placed (e i s r block col : ℕ) : Type 0 where
   pub starts : block ≡ i / s * (s * r)
   pub column : col ≡ i % s
   pub even : Even e col
+
+-- of the len iterations from i on those below lane j are stored, and the next goes to column `col` of the block that starts at `block`
+pub record Waiting (e i len s r block col j : ℕ) : Type 0 where
+  pub fits : j ≤ len
+  pub even : Even e j
+  pub placed : Placed e (i + j) s r block col

@@ -47,5 +47,6 @@ writes-nothing scratch e r s =
 pub whole-at-once : (other : List ℕ) → length other ≡ 6 → (r : Verdict) → Stages twelve 0 7 3 pulse other r spectrum → ⊥
 unfolding stride inUse product blockSum sum
 whole-at-once other e r s =
-    let first : _≡_ {A = ℕ} 1 0 = chain-blocks twelve 7 3 pulse lent 1 (omega arith) spectrum (pulse, (other, (r, (refl, (e, s))))) 0 0 (omega arith) (omega arith) in
+    let first : _≡_ {A = ℕ} 1 0 = chain-blocks twelve 7 3 pulse lent 1 (omega arith) spectrum (pulse, (other, (r, (refl, (e, s))))) 0 0 (omega arith)
+    (omega arith) in
     omega arith

@@ -76,13 +76,13 @@ module _ (p : Record) (m w : ℕ) (xs : List ℕ) (h : Lent p m w xs) where
     held (eqb (p .count) 1) (eqb (p .count % 2) 0) (alternated (λ j. stageOf p j m w) (p .count) (xs, ys))
         (λ e. ap (λ (n : ℕ). eqb (n % 2) 0) (eqb-true (p .count) 1 e)),
     source-run plain (residues m w (p .half)) (p .half) (inUse p) (xs, ys) (p .count),
-  )
-      (last-transform k l)
+  ) (last-transform k l)
 
   -- after it the buffer with the result holds the transform
   pub run-transforms : (ys : List ℕ) → length ys ≡ p .half → (r : Verdict) (b : Two ℕ) → Runs p m w (xs, ys) r b
       → (k : ℕ) → k < p .half → cells (heldIn (resultIn (p .count)) b) k ≡ transform m w (p .half) (cells xs) k
-  run-transforms ys e r b s k l = ap (λ (c : Two ℕ). cells (heldIn (resultIn (p .count)) c) k) (settled _ _ _ _ _ s (sym (run-taken h (length ys) e))) ∙ result-transform ys k l
+  run-transforms ys e r b s k l = ap (λ (c : Two ℕ). cells (heldIn (resultIn (p .count)) c) k) (settled _ _ _ _ _ s (sym (run-taken h (length ys) e)))
+      ∙ result-transform ys k l
 
   -- stage calls written alternately leave what the stages do
   alternates : (ys : List ℕ) → length ys ≡ p .half → (k : ℕ) → k ≤ p .count → (b : Two ℕ) → Alternately p m w k (xs, ys) b

@@ -79,7 +79,8 @@ module _ {m M s r : ℕ} {turns src : List ℕ} {room : ℕ} (h : Staged m M s r
           few = h .blocks .few;
           stride = h .blocks .stride;
           turning = h .turning;
-          writes = λ p lp. rw (h .wide, e) (index-lt s r i p (h .blocks .stride) lp (M * r) (M / s) parts (rw (mul-div-left M {n = r} (omega (arith, h .blocks .some))) l));
+          writes = λ p lp. rw (h .wide, e) (index-lt s r i p (h .blocks .stride) lp (M * r)
+              (M / s) parts (rw (mul-div-left M {n = r} (omega (arith, h .blocks .some))) l));
         }
 
   -- outputs of column k

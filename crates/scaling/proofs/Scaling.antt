@@ -277,10 +277,10 @@ module _ {target : ℕ} {ins outs : List ℕ} (h : Scalable target ins outs) {i 
         scaled-out = rw (ep, same-gain, base-product out-base eo)
 
         pub scale-large : largest < p * o .product → {r : Scaled} → r ≡ refusedScaling (TooLarge (length ins + length outs)) → r ≡ scaled target ins outs
-        scale-large l x = x ∙ by-verdict target ins outs (Refused (TooLarge (length ins + length outs))) (on-last ∙ simp (lt-ltb largest _ (rw scaled-out at l)))
+        scale-large l x = x ∙ by-verdict target ins outs (Refused (TooLarge (length ins + length outs)))
+            (on-last ∙ simp (lt-ltb largest _ (rw scaled-out at l)))
 
-        pub scale-accepted : p * o .product ≤ largest → {x y : Radices} → x ≡ listed (ins ++ gained g) → y ≡ listed (outs ++ gained g)
-            → _≡_ {A = Scaled}
+        pub scale-accepted : p * o .product ≤ largest → {x y : Radices} → x ≡ listed (ins ++ gained g) → y ≡ listed (outs ++ gained g) → _≡_ {A = Scaled}
             (record { verdict = Accepted; p = p; «in_product» = p * i .product; «out_product» = p * o .product; «in_list» = x; «out_list» = y })
             (scaled target ins outs)
         unfolding acceptedScaling

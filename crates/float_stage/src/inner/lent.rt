@@ -4,7 +4,7 @@ use floats::inner::cells::put;
 ghost use mathlib.Core.Path.{_≡_};
 ghost use mathlib.Core.Bool.{true, false};
 ghost use mathlib.Core.Logic.{_⊎_};
-ghost use Prim.Native.Nat.{ℕ, _+_, _-_, _*_, _<_, _≤_};
+ghost use Prim.Native.Nat.{ℕ, _+_, _-_, _*_, _^_, _<_, _≤_};
 ghost use lib.ListN.{length, drop};
 ghost use Rattle.packing.specs.Places.{isWidth};
 ghost use Rattle.floats.specs.Complexes.{cell};
@@ -69,6 +69,14 @@ pub fn stand(w: usize) -> bool
     ensures { λ b. ⌜ (b ≡ true → (w ≡ 1) ⊎ (w ≡ 4)) × (b ≡ false → w ≡ 2) ⌝ }
 {
     w == 1 || w == 4
+}
+
+// The number of the first word of the twiddles of iteration i, where they stand one iteration after the other.
+pub fn first_word(i: usize, r: usize) -> usize
+    requires { ⌜ (0 < r) × (2 * (i * (r - 1)) < 2 ^ 64) ⌝ }
+    ensures { λ n. ⌜ n ≡ 2 * (i * (r - 1)) ⌝ }
+{
+    2 * (i * (r - 1))
 }
 
 // The words of tw from `from` on, if they stand there, or those fetched.

@@ -1,6 +1,7 @@
 // A float stage, sixteen iterations at a time.
 use crate::inner::first::first;
 use crate::inner::lent::fetch;
+use crate::inner::lent::first_word;
 use crate::inner::lent::lent;
 use crate::inner::lent::stand;
 use counts::inner::stages::stride;
@@ -43,13 +44,6 @@ fn in_fours(m: usize, w: usize) -> usize
     if w == 4 { m / 4 * 4 } else { 0 }
 }
 
-// The lanes that radix r is kept in: an array serves some arms only, so that the compiler still sees that it does not escape.
-fn pick<'a>(a: &'a [f32], b: &'a [f32], r: usize) -> &'a [f32]
-    ensures { λ p. ⌜ (r < 7 → now p ≡ now (a .entry)) × (7 ≤ r → now p ≡ now (b .entry)) ⌝ }
-{
-    if r < 7 { a } else { b }
-}
-
 // Of a later stage of m iterations those below `end`, in whole lanes of 4; and the place of the next.
 fn by_fours(
     src: &[f32],
@@ -72,10 +66,9 @@ fn by_fours(
     let mut i = 0;
     while i < end {
         let len = least(end - i, 4);
-        let from = 2 * (i * (r - 1));
         lanes4(
             src,
-            &tw[from..],
+            lent(tw, tw, true, first_word(i, r)),
             &mut ra,
             &mut ia,
             &mut rb,
@@ -85,18 +78,7 @@ fn by_fours(
             len,
             r,
         );
-        at = store4(
-            pick(&ra, &rb, r),
-            pick(&ia, &ib, r),
-            dst,
-            at,
-            i,
-            m,
-            len,
-            s,
-            r,
-            even,
-        );
+        at = store4(&ra, &ia, &rb, &ib, dst, at, i, m, len, s, r, even);
         i += len;
     }
     at
@@ -129,10 +111,9 @@ fn by_sixteens(
     while i < m {
         let len = least(m - i, 16);
         fetch(tw, &mut t, i, m, len, r, w, here);
-        let from = 2 * (i * (r - 1));
         lanes(
             src,
-            lent(tw, &t, here, from),
+            lent(tw, &t, here, first_word(i, r)),
             &mut ra,
             &mut ia,
             &mut rb,
@@ -142,18 +123,7 @@ fn by_sixteens(
             len,
             r,
         );
-        at = store(
-            pick(&ra, &rb, r),
-            pick(&ia, &ib, r),
-            dst,
-            at,
-            i,
-            m,
-            len,
-            s,
-            r,
-            even,
-        );
+        at = store(&ra, &ia, &rb, &ib, dst, at, i, m, len, s, r, even);
         i += len;
     }
 }

@@ -10,7 +10,7 @@ ghost use lib.ListN.{length, getD};
 ghost use Rattle.radices.specs.Lists.{isRadix};
 ghost use Rattle.floats.specs.Complexes.{blank};
 ghost use Rattle.kernel.specs.Parts.{kernelOf, outputOf, Sized};
-ghost use Rattle.lanes.specs.Parts.{Fetched, Wrote, Done, lane, Held, Saved, InBlock, Stored, Batch, Even, Evenly, Placed};
+ghost use Rattle.lanes.specs.Parts.{Fetched, Wrote, Done, lane, Saved, Pairs, Paired, InBlock, Stored, Batch, Even, Evenly, Placed, Waiting};
 
 // The r outputs of the cells c to lane j, each stored when it is made: the even ones, then the odd ones, which share most with each other.
 pub fn save(c: [Complex; 8], re: &mut [f32], im: &mut [f32], j: usize, r: usize)
@@ -48,8 +48,8 @@ pub fn lanes(
     len: usize,
     r: usize,
 )
-    requires { ⌜ Sized m r (length (now src)) × (i + len ≤ m) × (len ≤ 16) × (2 * (len * (r - 1)) ≤ length (now tw)) × (length (now ra) ≡ 128) × (length (now ia) ≡ 128) × (length (now rb) ≡ 128) × (length (now ib) ≡ 128) × (3 ≤ r) ⌝ }
-    ensures { λ _. ⌜ ((lent : ℕ → ℕ → Complex) → Fetched i len r lent (now (tw .entry)) → (r < 7 → Held i len r (outputOf false m r (now (src .entry)) lent) (now (ra .exit)) (now (ia .exit))) × (7 ≤ r → Held i len r (outputOf false m r (now (src .entry)) lent) (now (rb .exit)) (now (ib .exit)))) ⌝ }
+    requires { ⌜ Sized m r (length (now src)) × (i + len ≤ m) × (len ≤ 16) × (2 * (len * (r - 1)) ≤ length (now tw)) × Pairs (now ra) (now ia) (now rb) (now ib) × (3 ≤ r) ⌝ }
+    ensures { λ _. ⌜ Pairs (now (ra .exit)) (now (ia .exit)) (now (rb .exit)) (now (ib .exit)) × ((lent : ℕ → ℕ → Complex) → Fetched i len r lent (now (tw .entry)) → Paired i len r (outputOf false m r (now (src .entry)) lent) (now (ra .exit)) (now (ia .exit)) (now (rb .exit)) (now (ib .exit))) ⌝ }
 {
     let mut j = 0;
     while j < len {
@@ -65,17 +65,6 @@ pub fn lanes(
     }
 }
 
-// Cell k of the lanes.
-fn held(re: &[f32], im: &[f32], k: usize) -> Complex
-    requires { ⌜ (k < 128) × (length (now re) ≡ 128) × (length (now im) ≡ 128) ⌝ }
-    ensures { λ z. ⌜ z ≡ lane (now (re .entry)) (now (im .entry)) k ⌝ }
-{
-    Complex {
-        re: re[k],
-        im: im[k],
-    }
-}
-
 // n cells of the lanes from k on, to the cells from `at` on.
 fn row(re: &[f32], im: &[f32], k: usize, dst: &mut [f32], at: usize, n: usize)
     requires { ⌜ (k + n ≤ 128) × (length (now re) ≡ 128) × (length (now im) ≡ 128) × (2 * (at + n) ≤ length (now dst)) ⌝ }
@@ -83,7 +72,10 @@ fn row(re: &[f32], im: &[f32], k: usize, dst: &mut [f32], at: usize, n: usize)
 {
     let mut t = 0;
     while t < n {
-        let z = held(re, im, k + t);
+        let z = Complex {
+            re: re[k + t],
+            im: im[k + t],
+        };
         put(dst, at + t, z);
         t += 1;
     }
@@ -185,10 +177,54 @@ pub fn onward(at: Place, n: usize, s: usize, r: usize) -> Place
     }
 }
 
+// The lanes that radix r is kept in: an array serves some arms only, so that the compiler still sees that it does not escape.
+fn pick<'a>(a: &'a [f32], b: &'a [f32], r: usize) -> &'a [f32]
+    ensures { λ p. ⌜ (r < 7 → now p ≡ now (a .entry)) × (7 ≤ r → now p ≡ now (b .entry)) ⌝ }
+{
+    if r < 7 { a } else { b }
+}
+
+// How far the outputs of iterations in lanes are stored: the place of the next, and its lane.
+pub struct Next {
+    pub at: Place,
+    pub j: usize,
+}
+
+// Of the len iterations from i on, whose outputs are stored below lane j, some more of one block.
+pub fn step<'a>(
+    ra: &'a [f32],
+    ia: &'a [f32],
+    rb: &'a [f32],
+    ib: &'a [f32],
+    dst: &mut [f32],
+    at: Place,
+    i: usize,
+    j: usize,
+    m: usize,
+    len: usize,
+    s: usize,
+    r: usize,
+    even: usize,
+) -> Next
+    requires { ⌜ Stored i m len s r (length (now dst)) × Evenly even len s × Waiting even i len s r (at .block) (at .col) j × (j < len) × Pairs (now ra) (now ia) (now rb) (now ib) ⌝ }
+    ensures { λ q. ⌜ Waiting even i len s r (q .at .block) (q .at .col) (q .j) × (j < q .j) × ((v : ℕ → ℕ → Complex) → Paired i len r v (now (ra .entry)) (now (ia .entry)) (now (rb .entry)) (now (ib .entry)) → Done s r v (now (dst .entry)) (i + j) → Done s r v (now (dst .exit)) (i + q .j)) ⌝ }
+{
+    let re = pick(ra, rb, r);
+    let im = pick(ia, ib, r);
+    let n = batch(even, s - at.col, len - j);
+    rows(re, im, j, dst, at.block + at.col, i + j, n, s, r);
+    Next {
+        at: onward(at, n, s, r),
+        j: j + n,
+    }
+}
+
 // The outputs of the len iterations from i on, from the lanes to their cells, some of one block at a time; and the place of the next.
-pub fn store(
-    re: &[f32],
-    im: &[f32],
+pub fn store<'a>(
+    ra: &'a [f32],
+    ia: &'a [f32],
+    rb: &'a [f32],
+    ib: &'a [f32],
     dst: &mut [f32],
     from: Place,
     i: usize,
@@ -198,16 +234,12 @@ pub fn store(
     r: usize,
     even: usize,
 ) -> Place
-    requires { ⌜ Stored i m len s r (length (now dst)) × Evenly even len s × Placed even i s r (from .block) (from .col) × (length (now re) ≡ 128) × (length (now im) ≡ 128) ⌝ }
-    ensures { λ q. ⌜ Placed even (i + len) s r (q .block) (q .col) × ((v : ℕ → ℕ → Complex) → Held i len r v (now (re .entry)) (now (im .entry)) → Done s r v (now (dst .entry)) i → Done s r v (now (dst .exit)) (i + len)) ⌝ }
+    requires { ⌜ Stored i m len s r (length (now dst)) × Evenly even len s × Placed even i s r (from .block) (from .col) × Pairs (now ra) (now ia) (now rb) (now ib) ⌝ }
+    ensures { λ q. ⌜ Placed even (i + len) s r (q .block) (q .col) × ((v : ℕ → ℕ → Complex) → Paired i len r v (now (ra .entry)) (now (ia .entry)) (now (rb .entry)) (now (ib .entry)) → Done s r v (now (dst .entry)) i → Done s r v (now (dst .exit)) (i + len)) ⌝ }
 {
-    let mut at = from;
-    let mut j = 0;
-    while j < len {
-        let n = batch(even, s - at.col, len - j);
-        rows(re, im, j, dst, at.block + at.col, i + j, n, s, r);
-        at = onward(at, n, s, r);
-        j += n;
+    let mut next = Next { at: from, j: 0 };
+    while next.j < len {
+        next = step(ra, ia, rb, ib, dst, next.at, i, next.j, m, len, s, r, even);
     }
-    at
+    next.at
 }

@@ -8,7 +8,8 @@ use Rattle.remainder.proofs.stage as fn
 work-requires : fn.Tie.Need-work-requires
 work-requires c κs =
     let c3 = c .before .before .before in let c6 = c3 .before .before .before in let a = c6 .before .before .before .before .args in (
-      taken (a .plan) (a .m) (a .w) (a .input .now) (length (a .other .now)) (sym (c6 .before .is-planned .ensures) ∙ not-false _ (c6 .if1 .left)) (search needs)
+      taken (a .plan) (a .m) (a .w) (a .input .now) (length (a .other .now)) (sym (c6 .before .is-planned .ensures) ∙ not-false _ (c6 .if1 .left))
+          (search needs)
           (sym (c3 .lent .ensures) ∙ c .before .enum-told .given .1),
       c3 .before .if2 .left,
     )

@@ -1,5 +1,5 @@
 -- `lanes::inner::lanes::row` meets its contract. Assumes nothing.
-use Rattle.sequences.proofs.Basics.{_≡_, _+_, _-_, _*_, _≤_, _<_, arith, length, needs}
+use Rattle.sequences.proofs.Basics.{_≡_, refl, _+_, _-_, _*_, _≤_, _<_, arith, length, needs}
 use Rattle.lanes.specs.Parts.{lane, Wrote}
 use Rattle.lanes.proofs.Writes.{wrote-none, wrote-step, wrote-all}
 use Rattle.lanes.proofs.inner.lanes.row as fn
@@ -12,13 +12,14 @@ abbrev μ-loop : fn.Tie.MeasureT-loop
 
 loop-again : fn.Tie.Need-loop-again Inv-loop μ-loop
 loop-again c =
-    let c4 = c .before .before .before .before in let c6 = c4 .before .before in let c10 = c6 .before .before .before .before in
-    let l = c6 .loop in let put = c .before .before .put in
-    let room : 2 * (c10 .args .at + l .t) + 1 < length (c10 .args .dst .now) = omega arith in
-    (omega arith, wrote-step _ _ _ (l .t) (l .dst) (put .last .0) _ room (l .inv .1) (c4 .held .ensures) (put .ensures))
+    let c7 = c .before .before .before .before .before .before .before in let s = c7 .before .before .before .before in
+    let l = c7 .loop in let put = c .before .before .put in
+    let room : 2 * (s .args .at + l .t) + 1 < length (s .args .dst .now) = omega arith in
+    (omega arith, wrote-step _ _ _ (l .t) (l .dst) (put .last .0) _ room (l .inv .1) refl (put .ensures))
 
 pub row-spec : {M : Type 1} → fn.Statement.statement M
-row-spec = fn.Tie.close (fn.Tie.spec Inv-loop μ-loop (λ c. (omega arith, wrote-none _ _ _)) (λ c. search needs) (λ c κs. search needs) (λ c. search needs)
-    (λ c κs. omega (arith, c .before .before .before .loop .inv .1 .size))
+row-spec = fn.Tie.close (fn.Tie.spec Inv-loop μ-loop (λ c. (omega arith, wrote-none _ _ _)) (λ c. search needs) (λ c. search needs) (λ c. search needs)
+    (λ c. search needs) (λ c. search needs) (λ c. search needs) (λ c. search needs)
+    (λ c κs. omega (arith, c .before .before .before .before .loop .inv .1 .size))
     (λ c. search needs) (λ c. search needs) loop-again (λ c. c .before .loop .inv .1 .size)
     (λ c. let all : c .before .loop .t ≡ c .before .before .before .before .before .args .n = omega arith in wrote-all _ _ _ all (c .before .loop .inv .1)))

@@ -17,7 +17,8 @@ columns-requires c κs =
     let a = c .before .before .before .before .before .before .before .before in
     let two : 0 < a .args .m = omega (arith, a .pre .0 .modulus .two) in
     let turns : Under (a .args .m) 8 (c .before .powers .result) = λ q l. below-mod _ _ (a .args .m) (c .before .powers .ensures q l) two in
-    let staged = work-staged (a .args .t1) (a .args .j) (a .args .m) (a .args .w) (a .args .src .now) _ (a .pre .0) (a .pre .1) (c .before .powers .result) turns in
+    let staged = work-staged (a .args .t1) (a .args .j) (a .args .m) (a .args .w) (a .args .src .now) _ (a .pre .0) (a .pre .1)
+    (c .before .powers .result) turns in
     (rw (c .before .before .before .before .before .stride .ensures) staged, below-mod _ _ (a .args .m) (c .before .before .before .power .ensures) two)
 
 returns : fn.Tie.Need-returns

@@ -1,6 +1,6 @@
--- `float_stage::inner::stage::pick` meets its contract. Assumes nothing.
+-- `lanes::inner::lanes::pick` meets its contract. Assumes nothing.
 use Rattle.sequences.proofs.Basics.{refl, arith}
-use Rattle.float_stage.proofs.inner.stage.pick as fn
+use Rattle.lanes.proofs.inner.lanes.pick as fn
 
 pub pick-spec : {M : Type 1} → fn.Statement.statement M
 pick-spec = fn.Tie.close (fn.Tie.spec (λ c. (λ l. refl, λ l. absurd (omega (arith, c .if1 .taken))))
