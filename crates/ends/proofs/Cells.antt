@@ -80,9 +80,6 @@ module _ (s : Steps) (h : ℕ) (tw xs : List Float) where
     both-second : cell both j ≡ z
     both-second = get-put (putCell ys i y) j z (rw (length-put ys i y) lj)
 
-    both-other : (n : ℕ) → n ≢ i → n ≢ j → cell both n ≡ cell ys n
-    both-other n a b = get-other (putCell ys i y) j z n b ∙ get-other ys i y n a
-
   pub stepped-first : 0 < h → (os : List Float) → length os ≡ 2 * (h + 1) → (ys : List Float) (y z : Complex) → y ≡ s .first (cell xs 0) (cell xs h)
       → z ≡ s .last (cell xs 0) (cell xs h)
       → ys ≡ putCell (putCell os 0 y) h z → Stepped s h tw xs ys 1
