@@ -1,8 +1,7 @@
 -- `spectrum::inverse` meets its contract. Assumes nothing.
-use Rattle.sequences.proofs.Basics.{refl, sym, ap, _∙_, Bool, not, ltb, length, needs}
+use Rattle.sequences.proofs.Basics.{refl, sym, _∙_, length, needs}
 use lib.Ieee.{ofBits}
 use Rattle.refusal.proofs.Rows.{settles-refused, settles-accepted}
-use Rattle.spectrum.specs.Calls.{lentVerdict}
 use Rattle.spectrum.proofs.Verdicts.{invertible}
 use Rattle.spectrum.proofs.inverse as fn
 
@@ -18,19 +17,13 @@ returns : fn.Tie.Need-returns
 unfolding ofBits
 returns c =
     let c4 = c .before .before .before .before in let c7 = c4 .before .before .before in let c9 = c7 .before .before in
-    let a = c9 .before .before .before .before .before .before .before .before .args in
-    let made = c4 .inverse .ensures in
-    let told = c9 .lent .ensures 48 refl ∙ ap (λ (b : Bool). lentVerdict (a .plan) (a .width) b (not (ltb (length (a .output .now)) (a .plan .n)))
-    (length (a .scratch .now)) 48 (a .input .now) (a .stage-twiddles .now) (a .end-twiddles .now)) (c9 .before .before .is-bins .ensures) in
+    let made = c4 .inverse .ensures in let told = rw (c9 .before .before .is-bins .ensures) at (c9 .lent .ensures 48 refl) in
     settles-accepted _ _ _ _ (sym (c7 .enum-told .given .1) ∙ told) (λ i. (made .0 i, made .1 i))
 
 returns-2 : fn.Tie.Need-returns-2
 unfolding ofBits
 returns-2 c =
-    let a = c .before .before .before .before .before .before .before .before .before .before .before .args in
-    let told = c .before .before .before .lent .ensures 48 refl
-    ∙ ap (λ (b : Bool). lentVerdict (a .plan) (a .width) b (not (ltb (length (a .output .now)) (a .plan .n))) (length (a .scratch .now)) 48 (a .input .now)
-    (a .stage-twiddles .now) (a .end-twiddles .now)) (c .before .before .before .before .before .is-bins .ensures) in
+    let c3 = c .before .before .before in let told = rw (c3 .before .before .is-bins .ensures) at (c3 .lent .ensures 48 refl) in
     settles-refused _ _ _ _ (sym (c .before .why .given .1) ∙ told)
 
 pub inverse-spec : {M : Type 1} → fn.Statement.statement M
