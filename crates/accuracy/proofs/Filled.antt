@@ -5,7 +5,7 @@ use Rattle.refusal.specs.declared.Verdict.the-variants.{Accepted}
 use Rattle.counts.specs.Counts.{radix}
 use Rattle.plan.specs.Record.{isPlanned}
 use Rattle.plan.specs.declared.Record.{Record}
-use Rattle.plan.proofs.Bounds.{plan-order}
+use Rattle.plan.proofs.Bounds.{plan-order, plan-half, plan-twice}
 use Rattle.schedule.specs.Plans.{inUse}
 use Rattle.schedule.proofs.Plans.{use-length, use-radix-few}
 use Rattle.turn.specs.Calls.{part}
@@ -15,7 +15,6 @@ use Rattle.twiddle.specs.Calls.{Fills}
 use Rattle.end_twiddles.specs.declared.inner.ends.Direction.{Direction}
 use Rattle.twiddle.proofs.Verdicts.{taken}
 use Rattle.transform.specs.Transforms.{Slices}
-use Rattle.transform.proofs.Transforms.{plan-some, plan-twice}
 use Rattle.accuracy.specs.House.{house}
 use Rattle.accuracy.proofs.Run.{index-at}
 
@@ -38,12 +37,12 @@ circled dir p W lent v tw fills filled =
     let circle : d * (h * 2) ≡ 6720 = ap (λ (n : ℕ). d * n) (mul-comm h 2) ∙ parts in
     record {
       planned = t .planned;
-      some = plan-some p (t .planned);
+      some = plan-half p (t .planned) .0;
       twice = plan-twice p (t .planned);
       circle = circle;
       pairs = order d h ∙ circle;
       turn-at = λ q.
-          ap (λ (n : ℕ). house (indexOf (part q n))) (plan-twice p (t .planned)) ∙ index-at q (2 * h) d (positive h (plan-some p (t .planned))) parts
+          ap (λ (n : ℕ). house (indexOf (part q n))) (plan-twice p (t .planned)) ∙ index-at q (2 * h) d (positive h (plan-half p (t .planned) .0)) parts
           ∙ ap house (mul-comm q d);
       eight = λ j l. use-radix-few p (t .planned) j (subst (λ (n : ℕ). j < n) (use-length p (t .planned)) l);
       short = le-trans (le-of-eq (use-length p (t .planned))) (le-trans (plan-order p (t .planned) .few) (lit≤ tt));

@@ -29,7 +29,7 @@ use Rattle.spectrum.specs.Calls.{Forwards}
 use Rattle.transform.specs.Parts.{Forwardable}
 use Rattle.transform.specs.Transforms.{Slices, padOf, forwardRun, forwardOf}
 use Rattle.transform.proofs.Scratch.{pad-length}
-use Rattle.transform.proofs.Transforms.{pairs-lent}
+use Rattle.counts.proofs.Counts.{pairs-lent}
 use Rattle.spectrum.proofs.Verdicts.{forwardable}
 use Rattle.accuracy.specs.Gauss.{Gauss, timesG, scaleG, Disc, Off, valC}
 use Rattle.accuracy.specs.House.{house}

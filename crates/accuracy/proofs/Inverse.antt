@@ -34,7 +34,7 @@ use Rattle.spectrum.specs.Calls.{Inverts}
 use Rattle.transform.specs.Parts.{Invertible}
 use Rattle.transform.specs.Transforms.{Slices, dataOf, padOf, preparedOf, inverseRun, restored, inverseOf}
 use Rattle.transform.proofs.Scratch.{pad-length}
-use Rattle.transform.proofs.Transforms.{pairs-lent}
+use Rattle.counts.proofs.Counts.{pairs-lent}
 use Rattle.spectrum.proofs.Verdicts.{invertible}
 use Rattle.accuracy.specs.Gauss.{Gauss, minusG, timesG, scaleG, Disc, Off, valC}
 use Rattle.accuracy.specs.House.{house}

@@ -1,6 +1,7 @@
 -- Laws of an accepted plan's stages: bounds of its radices, strides and counts, and sums over stages. Assumes nothing.
 use Rattle.sequences.proofs.Basics.{_≡_, refl, sym, ap, _∙_, ℕ, zero, suc, _+_, _-_, _*_, _/_, _<_, _≤_, _%_, mul-le-mul, mul-le-mul-left, mul-one, div-le-self}
 use Rattle.sequences.proofs.Basics.{add-zero, add-one, arith, true, false, Bool, cond, List, eqb, getD, take, drop, take-append-drop, take-take, eqb-false}
+use Rattle.sequences.proofs.Basics.{eqb-true}
 use Rattle.radices.specs.Lists.{product}
 use Rattle.plan.specs.Record.{isPlanned}
 use Rattle.counts.specs.Counts.{radix, stride, twiddleCount, twiddleStart, recordVerdict, endCount}
@@ -40,6 +41,15 @@ start-up h rs j zero = rw add-zero (omega arith)
 start-up h rs j (suc d) =
     let same : j + suc d ≡ j + d + 1 = omega arith in
     rw same (omega (arith, start-up h rs j d, start-next h rs (j + d)))
+
+-- there is an end twiddle for every pair
+pub pairs-lent : (h k : ℕ) → 2 * k < h → k ≤ endCount (2 * h)
+unfolding endCount
+pairs-lent h k l = go (eqb (2 * h % 4) 0) refl
+  where
+    go : (b : Bool) → eqb (2 * h % 4) 0 ≡ b → k ≤ cond b (2 * h / 4 - 1) (2 * h / 4)
+    go true e = let z = eqb-true (2 * h % 4) 0 e in omega arith
+    go false e = omega arith
 
 -- all of them are less than a quarter of the circle
 pub end-few : (n : ℕ) → 0 < n → 4 * endCount n < n

@@ -9,7 +9,7 @@ use Rattle.counts.specs.Counts.{radix, stride, resultIn}
 use Rattle.radices.specs.Lists.{product}
 use Rattle.plan.specs.Record.{isPlanned}
 use Rattle.plan.specs.declared.Record.{Record}
-use Rattle.plan.proofs.Bounds.{plan-radix-bounds}
+use Rattle.plan.proofs.Bounds.{plan-radix-bounds, plan-twice}
 use Rattle.schedule.specs.Buffers.{alternated, driven, heldIn}
 use Rattle.schedule.specs.Plans.{inUse}
 use Rattle.schedule.specs.Stage.{kernelTurn, iteration, place, twiddledIn, read, total, plain, output, stageBy, stage}
@@ -24,7 +24,6 @@ use Rattle.stage.specs.Runs.{ownOf, stageIn}
 use Rattle.ends.specs.Ends.{endCell, ended, ifftSteps, postprocess-fft, conjugated, zeros}
 use Rattle.transform.specs.Parts.{Forwardable, Invertible}
 use Rattle.transform.specs.Transforms.{dataOf, padOf, forwardRun, forwardOf, preparedOf, inverseRun, restored, inverseOf}
-use Rattle.transform.proofs.Transforms.{plan-twice}
 use Rattle.finite.specs.Whole.{IsWhole, AreWhole, bin, Short, Small, Samples, IsBins}
 use Rattle.finite.proofs.Whole.{Sum, none, at, minus, _⊕_, part, copies, times-copies, Held, held-add, held-sub, held-neg, held-zero, held-as}
 

@@ -9,8 +9,8 @@ use Rattle.plan.specs.Record.{isPlanned}
 use Rattle.counts.specs.declared.Buffer.{Buffer}
 use Rattle.counts.specs.declared.Buffer.the-variants.{Data, Scratchpad}
 use Rattle.plan.specs.declared.Record.{Record}
-use Rattle.plan.proofs.Bounds.{plan-order}
-use Rattle.counts.proofs.Counts.{count-later}
+use Rattle.plan.proofs.Bounds.{plan-order, plan-half, plan-twice}
+use Rattle.counts.proofs.Counts.{count-later, pairs-lent}
 use Rattle.schedule.specs.Buffers.{Two, driven, heldIn}
 use Rattle.schedule.specs.Plans.{inUse}
 use Rattle.schedule.proofs.Buffers.{driven-none}
@@ -27,7 +27,7 @@ use Rattle.ends.proofs.Cells.{length-ended, length-conjugated}
 use Rattle.transform.specs.Parts.{Forwardable, Invertible}
 use Rattle.transform.specs.Transforms.{dataOf, padOf, forwardRun, forwardOf, preparedOf, inverseRun, restored, inverseOf}
 use Rattle.transform.proofs.Scratch.{data-length, pad-length, both-data, both-pad, run-long}
-use Rattle.transform.proofs.Transforms.{plan-some, plan-twice, pairs-lent, held-long}
+use Rattle.transform.proofs.Transforms.{held-long}
 use Rattle.finite.specs.Sizes.{AtMost, Both, Words}
 use Rattle.finite.proofs.Ends.{zero-most, fft-cell, ifft-cell, tabulated-words, conjugated-words}
 use Rattle.finite.proofs.Stages.{Ones}
@@ -98,7 +98,7 @@ module _ (p : Record) (W k : ℕ) (stage end xs s : List Float) (no : ℕ) (t : 
       let lz : length Z ≡ 2 * p .half = held-long (2 * p .half) (resultIn (p .count)) ran (lens .0) (lens .1) in
       let room : k + 5 * p .count ≤ 121 = omega (arith, plan-order p (t .planned) .few) in
       tabulated-words (k + 5 * p .count + 3) (p .half + 1) (endCell fftSteps (p .half) (cell Z) (endLent end)) (λ j l.
-      fft-cell (k + 5 * p .count) room (p .half) (plan-some p (t .planned)) (cell Z) (endLent end) (end-ones p (t .planned) end (t .ends) we)
+      fft-cell (k + 5 * p .count) room (p .half) (plan-half p (t .planned) .0) (cell Z) (endLent end) (end-ones p (t .planned) end (t .ends) we)
       (λ i li. cell-both (k + 5 * p .count) Z wz i (omega (arith, lz))) j (omega arith))
 
   -- Data and, where there is a stage, the Scratchpad
@@ -144,7 +144,7 @@ module _ (p : Record) (W k : ℕ) (stage end xs s : List Float) (room : ℕ) (t 
   prepared-words : Words (k + 3) (preprocess-ifft (p .half) end xs)
   unfolding ended
   prepared-words = tabulated-words (k + 3) (p .half + 1) (endCell ifftSteps (p .half) (cell xs) (endLent end)) (λ j l.
-      ifft-cell k (omega arith) (p .half) (plan-some p (t .planned)) (cell xs) (endLent end) (end-ones p (t .planned) end (t .ends) we)
+      ifft-cell k (omega arith) (p .half) (plan-half p (t .planned) .0) (cell xs) (endLent end) (end-ones p (t .planned) end (t .ends) we)
       (λ i li. cell-both k xs wx i (omega (arith, t .bins))) j (omega arith))
 
   -- what the stages start from
@@ -164,7 +164,7 @@ module _ (p : Record) (W k : ℕ) (stage end xs s : List Float) (room : ℕ) (t 
   q-long : length q ≡ length s
   unfolding preparedOf
   q-long = length-append (preprocess-ifft (p .half) end xs) (drop (2 * (p .half + 1)) s)
-      ∙ omega (arith, length-ended ifftSteps (p .half) end xs, length-drop (2 * (p .half + 1)) s, t .room, plan-some p (t .planned))
+      ∙ omega (arith, length-ended ifftSteps (p .half) end xs, length-drop (2 * (p .half + 1)) s, t .room, plan-half p (t .planned))
 
   abbrev started : Two Float
   started = (conjugated (p .half) (dataOf (p .half) q), padOf (p .half) q)

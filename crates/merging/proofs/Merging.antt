@@ -22,9 +22,10 @@ pub and-false : (b : Bool) → (b && false) ≡ false
 and-false true = refl
 and-false false = refl
 
-both-true : (a b : Bool) → (a && b) ≡ true → (a ≡ true) × (b ≡ true)
-both-true true b e = (refl, e)
-both-true false b e = absurd (true≢false (sym e))
+-- two tests that both hold
+pub both : (a b : Bool) → (a && b) ≡ true → (a ≡ true) × (b ≡ true)
+both true b e = (refl, e)
+both false b e = absurd (true≢false (sym e))
 
 pub a-needs : (t : Tally) → (t .fours < 1) ⊎ (t .twos < 1) → applies A t ≡ false
 unfolding applies
@@ -127,7 +128,7 @@ merge-keeps None t h = keeps-all t
 -- whichever rule it is, if it applies
 pub applied-keeps : (r : Rule) (t : Tally) → applies r t ≡ true → Keeps t (merge r t)
 unfolding applies Tells merge
-applied-keeps A t e = let b = both-true (leb 1 (t .fours)) (leb 1 (t .twos)) e in merge-keeps A t (leb-true 1 (t .fours) (b .0), leb-true 1 (t .twos) (b .1))
+applied-keeps A t e = let b = both (leb 1 (t .fours)) (leb 1 (t .twos)) e in merge-keeps A t (leb-true 1 (t .fours) (b .0), leb-true 1 (t .twos) (b .1))
 applied-keeps B t e = merge-keeps B t (leb-true 3 (t .twos) e)
 applied-keeps C t e = merge-keeps C t (leb-true 2 (t .fours) e)
 applied-keeps D t e = merge-keeps D t (leb-true 2 (t .twos) e)

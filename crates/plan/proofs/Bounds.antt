@@ -1,5 +1,5 @@
 -- Laws of an accepted plan: its order, its sizes, and bounds of its radices. Assumes nothing.
-use Rattle.sequences.proofs.Basics.{_≡_, refl, sym, ap, _∙_, ℕ, zero, suc, _-_, _<_, _≤_, arith, true, List, [], _∷_, _++_, append-nil, length, getD, take}
+use Rattle.sequences.proofs.Basics.{_≡_, refl, sym, ap, _∙_, ℕ, zero, suc, _-_, _*_, _<_, _≤_, arith, true, List, [], _∷_, _++_, append-nil, length, getD, take}
 use Rattle.sequences.proofs.Basics.{replicate, getD-take, length-take-le}
 use Rattle.radices.specs.Lists.{isRadix}
 use Rattle.merging.specs.Merging.{tally, sorted}
@@ -7,8 +7,9 @@ use Rattle.merging.specs.declared.inner.merging.Tally.{Tally}
 use Rattle.plan.specs.Record.{inOrder, sized, isPlanned}
 use Rattle.plan.specs.declared.Record.{Record}
 use Rattle.radices.proofs.Products.{Radical, radix-least, product-positive}
+use Rattle.merging.proofs.Merging.{both}
 use Rattle.merging.proofs.Weights.{radical-sorted}
-use Rattle.plan.proofs.Records.{both, InOrder, in-order, Sized, well-sized, order-fits}
+use Rattle.plan.proofs.Records.{InOrder, in-order, Sized, well-sized, order-fits}
 use Rattle.merging.specs.Half.{half}
 
 -- an entry of a list of radices is a radix
@@ -76,8 +77,11 @@ module _ (p : Record) (e : isPlanned p ≡ true) where
       (ap (λ xs. getD xs (suc j) 0) (sym (plan-order .used)) ∙ getD-take (p .count) (p .radices) (suc j) 0 h ∙ e) in
       omega (arith, plan-radix-bounds (suc j) h, two)
 
+  pub plan-twice : p .n ≡ 2 * p .half
+  plan-twice = plan-sized .twice
+
   pub plan-some : 0 < p .n
-  plan-some = omega (arith, plan-half, plan-sized .twice)
+  plan-some = omega (arith, plan-half, plan-twice)
 
   pub plan-few : p .n ≤ 8192
   plan-few = plan-sized .small

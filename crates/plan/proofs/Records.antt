@@ -1,5 +1,5 @@
 -- Laws of plan records: what an accepted list is, that the record depends on n alone, and which records planning gives. Assumes nothing.
-use Rattle.sequences.proofs.Basics.{_≡_, refl, sym, ap, _∙_, ℕ, zero, suc, _+_, _-_, _*_, _/_, _%_, _<_, _≤_, one-mul, add-one, arith, Bool, true, false, _&&_}
+use Rattle.sequences.proofs.Basics.{_≡_, refl, sym, ap, _∙_, ℕ, zero, suc, _+_, _-_, _*_, _/_, _%_, _<_, _≤_, one-mul, add-one, arith, true, false}
 use Rattle.sequences.proofs.Basics.{false≢true, List, [], _∷_, eqb, length, getD, take, drop, drop-of-length-le, replicate, length-take, take-at, drop-cons}
 use Rattle.sequences.proofs.Basics.{eqb-true, eq-eqb, ne-eqb, lt-ltb, le-leb, lt-leb, leb-true}
 use Rattle.refusal.proofs.Rows.{deciding, accepted}
@@ -12,7 +12,7 @@ use Rattle.plan.specs.Record.{planVerdict, factors, recordOf, Plannable,
 use Rattle.plan.specs.declared.Record.{Record}
 use Rattle.merging.specs.declared.inner.merging.Tally.{Tally}
 use Rattle.radices.proofs.Lists.{length-padded}
-use Rattle.merging.proofs.Merging.{and-false, low, Keeps, length-sorted, merged-leaves, closed, none-at, merged-stop}
+use Rattle.merging.proofs.Merging.{and-false, both, low, Keeps, length-sorted, merged-leaves, closed, none-at, merged-stop}
 use Rattle.radices.proofs.Products.{Radical, radical, radical-none-bad, over-none-small, small-over-none, entries-few, bad-none, over-large, over-none-at}
 use Rattle.merging.proofs.Weights.{radical-sorted, weight, product-sorted, product-tally, tally-sorted, total-few, weight-tells}
 use Rattle.merging.proofs.Half.{Halved, half-halves}
@@ -112,10 +112,6 @@ unfolding recordOf factors
 record-by-n xs ys g h e = rw (stages-by-n xs ys g h e, e)
 
 -- ---- the test of a record
-
-pub both : (a b : Bool) → (a && b) ≡ true → (a ≡ true) × (b ≡ true)
-both true b e = (refl, e)
-both false b e = absurd (false≢true e)
 
 list-same : (xs ys : List ℕ) → eqList xs ys ≡ true → xs ≡ ys
 unfolding eqList

@@ -1,10 +1,10 @@
 -- What the report takes from planning. Assumes nothing.
-use Rattle.sequences.proofs.Basics.{_≡_, refl, sym, ap, _∙_, ℕ, min, _≤_, arith, decLe, Bool, true, false, _&&_, dite, List, length, take, take-length}
+use Rattle.sequences.proofs.Basics.{_≡_, refl, sym, ap, _∙_, ℕ, min, _≤_, arith, decLe, true, dite, List, length, take, take-length}
 use Rattle.sequences.proofs.Basics.{take-all}
 use Rattle.refusal.specs.Refusal.{verdict}
 use Rattle.refusal.specs.declared.Verdict.{Verdict}
 use Rattle.refusal.specs.declared.Verdict.the-variants.{Accepted, Refused}
-use Rattle.plan.specs.Record.{planVerdict, planned, plannedBy, acceptedPlan, refusedPlan, inOrder, sized, isPlanned}
+use Rattle.plan.specs.Record.{planVerdict, planned, plannedBy, acceptedPlan, refusedPlan, isPlanned}
 use Rattle.counts.specs.Counts.{recordVerdict, counted, located}
 use Rattle.plan.specs.declared.Record.{Record}
 use Rattle.counts.specs.declared.Buffer.{Buffer}
@@ -12,21 +12,16 @@ use Rattle.counts.specs.declared.Counted.{Counted}
 use Rattle.counts.specs.declared.Located.{Located}
 use Rattle.plan.specs.declared.Planned.{Planned}
 use Rattle.counts.proofs.Counts.{record-accepted}
-use Rattle.plan.proofs.Records.{accepted-good, in-order, planned-passes}
+use Rattle.plan.proofs.Bounds.{plan-order}
+use Rattle.plan.proofs.Records.{accepted-good, planned-passes}
 use Rattle.plan_text.specs.Tokens.{radices, firstRead}
 use Rattle.plan_text.specs.Report.{linesOf, reportOf, textOf, Reports}
 use Rattle.plan_text.specs.Growing.{Holds}
 use Rattle.plan_text.specs.declared.Text.{Text}
 
--- the first of two tests that both hold
-first-holds : (a b : Bool) → (a && b) ≡ true → a ≡ true
-first-holds true b e = refl
-first-holds false b e = e
-
 -- a plan has at most 13 radices
 pub planned-count : (p : Record) → isPlanned p ≡ true → p .count ≤ 13
-unfolding isPlanned
-planned-count p e = in-order (p .count) (p .radices) (first-holds (inOrder (p .count) (p .radices)) (sized p) e) .few
+planned-count p e = plan-order p e .few
 
 -- what is counted of it
 pub count-of : (p : Record) (r : Counted) (k : ℕ) → isPlanned p ≡ true → r ≡ counted (recordVerdict p) k → r .count ≡ k

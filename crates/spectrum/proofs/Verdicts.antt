@@ -13,7 +13,7 @@ use Rattle.floats.specs.Scan.{fits, firstUnfit}
 use Rattle.sequences.proofs.First.{joined-first, joined-second}
 use Rattle.spectrum.specs.Calls.{binWords, lentVerdict}
 use Rattle.transform.specs.Parts.{Forwardable, Invertible}
-use Rattle.transform.proofs.Transforms.{plan-twice}
+use Rattle.plan.proofs.Bounds.{plan-twice}
 
 -- two tests of numbers that come to the same
 pub same-eqb : (a b c d : ℕ) → (a ≡ b → c ≡ d) → (c ≡ d → a ≡ b) → eqb a b ≡ eqb c d

@@ -1,7 +1,7 @@
 -- Laws of both directions: that the steps of the code, one after the other, make what the definitions state. Assumes nothing.
-use Rattle.sequences.proofs.Basics.{_≡_, refl, sym, ap, ap₂, _∙_, ℕ, zero, suc, _+_, _-_, _*_, _/_, _%_, _≤_, _<_, arith, Bool, true, false, cond, List, _++_}
-use Rattle.sequences.proofs.Basics.{append-assoc, eqb, ltb, length, take, drop, length-append, length-drop, length-take-le, take-at, drop-at, drop-drop}
-use Rattle.sequences.proofs.Basics.{drop-append-le, take-append-le, eqb-true, lt-ltb}
+use Rattle.sequences.proofs.Basics.{_≡_, refl, sym, ap, ap₂, _∙_, ℕ, zero, suc, _+_, _-_, _*_, _≤_, _<_, arith, true, cond, List, _++_}
+use Rattle.sequences.proofs.Basics.{append-assoc, ltb, length, take, drop, length-append, length-drop, length-take-le, take-at, drop-at, drop-drop}
+use Rattle.sequences.proofs.Basics.{drop-append-le, take-append-le, lt-ltb}
 use borrow.Rule.Slice.PartMut.{putMid}
 use lib.Ieee.{Float}
 use Rattle.sequences.specs.Lists.{pasted}
@@ -11,7 +11,8 @@ use Rattle.plan.specs.Record.{isPlanned}
 use Rattle.counts.specs.declared.Buffer.{Buffer}
 use Rattle.counts.specs.declared.Buffer.the-variants.{Data, Scratchpad}
 use Rattle.plan.specs.declared.Record.{Record}
-use Rattle.plan.proofs.Bounds.{plan-half, plan-sized}
+use Rattle.plan.proofs.Bounds.{plan-half, plan-twice}
+use Rattle.counts.proofs.Counts.{pairs-lent}
 use Rattle.schedule.specs.Buffers.{Two, heldIn}
 use Rattle.stage.specs.Runs.{runOf}
 use Rattle.ends.specs.Ends.{ifftSteps, postprocess-fft, preprocess-ifft, conjugated, zeros}
@@ -215,32 +216,14 @@ module _ (p : Record) (W : ℕ) (stage end xs s : List Float) (some : 0 < p .hal
 
 -- ---- what an accepted plan gives
 
--- there is an end twiddle for every pair
-pub pairs-lent : (h k : ℕ) → 2 * k < h → k ≤ endCount (2 * h)
-unfolding endCount
-pairs-lent h k l = go (eqb (2 * h % 4) 0) refl
-  where
-    go : (b : Bool) → eqb (2 * h % 4) 0 ≡ b → k ≤ cond b (2 * h / 4 - 1) (2 * h / 4)
-    go true e = let z = eqb-true (2 * h % 4) 0 e in omega arith
-    go false e = omega arith
-
-module _ (p : Record) (e : isPlanned p ≡ true) where
-  pub plan-some : 0 < p .half
-  plan-some = plan-half p e .0
-
-  pub plan-few : p .half ≤ 4096
-  plan-few = plan-half p e .1
-
-  pub plan-twice : p .n ≡ 2 * p .half
-  plan-twice = plan-sized p e .twice
-
-  pub plan-endable : (words ends : ℕ) → words ≡ 2 * (p .half + 1) → ends ≡ 2 * endCount (p .n) → Endable (p .half) words ends
-  plan-endable words ends l m =
-      record {
-        some = plan-some;
-        few = plan-few;
-        long = l;
-        lent = λ k lk.
-            let many : k ≤ endCount (p .n) = rw plan-twice (pairs-lent (p .half) k lk) in
-            omega (arith, many, m);
-      }
+-- the steps at the ends find what they ask for
+pub plan-endable : (p : Record) → isPlanned p ≡ true → (words ends : ℕ) → words ≡ 2 * (p .half + 1) → ends ≡ 2 * endCount (p .n) → Endable (p .half) words ends
+plan-endable p e words ends l m =
+    record {
+      some = plan-half p e .0;
+      few = plan-half p e .1;
+      long = l;
+      lent = λ k lk.
+          let many : k ≤ endCount (p .n) = rw (plan-twice p e) (pairs-lent (p .half) k lk) in
+          omega (arith, many, m);
+    }

@@ -1,6 +1,7 @@
 -- `transform::inner::directions::forward` meets its contract. Assumes nothing.
 use Rattle.sequences.proofs.Basics.{_∙_, arith, needs}
-use Rattle.transform.proofs.Transforms.{plan-twice, plan-endable, forward-made}
+use Rattle.plan.proofs.Bounds.{plan-twice}
+use Rattle.transform.proofs.Transforms.{plan-endable, forward-made}
 use Rattle.transform.proofs.inner.directions.forward as fn
 
 stages-from-requires : fn.Tie.Need-stages-from-requires

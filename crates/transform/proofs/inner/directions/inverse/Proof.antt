@@ -1,6 +1,7 @@
 -- `transform::inner::directions::inverse` meets its contract. Assumes nothing.
 use Rattle.sequences.proofs.Basics.{refl, _*_, _≤_, arith, length, needs}
-use Rattle.transform.proofs.Transforms.{plan-some, plan-twice, plan-endable, invert-made, inverse-made}
+use Rattle.plan.proofs.Bounds.{plan-half, plan-twice}
+use Rattle.transform.proofs.Transforms.{plan-endable, invert-made, inverse-made}
 use Rattle.transform.proofs.inner.directions.inverse as fn
 
 invert-requires : fn.Tie.Need-invert-requires
@@ -24,7 +25,7 @@ returns c =
     let c2 = c .before .before in let c9 = c2 .before .before .before .before .before .before .before in
     let c14 = c9 .before .before .before .before .before in
     let s = c14 .before .before .before .before .before .before .before in let a = s .args in let i = c9 .invert in
-    let n = length (a .output .now) in let some = plan-some (a .plan) (s .pre .planned) in
+    let n = length (a .output .now) in let some = plan-half (a .plan) (s .pre .planned) .0 in
     let many : 2 * a .plan .half ≤ n = omega (arith, s .pre .samples, plan-twice (a .plan) (s .pre .planned)) in
     let p = c14 .prepare .ensures in (
       inverse-made (a .plan) (a .width) (a .stage-twiddles .now) (a .end-twiddles .now) (a .input .now) (a .scratch .now) some (s .pre .room) _ p

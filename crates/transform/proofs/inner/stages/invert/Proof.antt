@@ -1,7 +1,8 @@
 -- `transform::inner::stages::invert` meets its contract. Assumes nothing.
 use Rattle.sequences.proofs.Basics.{sym, _∙_, arith, length-take-le, needs}
 use Rattle.transform.proofs.Scratch.{front-room}
-use Rattle.transform.proofs.Transforms.{plan-few, from-data, from-pad}
+use Rattle.plan.proofs.Bounds.{plan-half}
+use Rattle.transform.proofs.Transforms.{from-data, from-pad}
 use Rattle.transform.proofs.inner.stages.invert as fn
 
 all-requires : fn.Tie.Need-all-requires
@@ -21,7 +22,7 @@ from-data-requires c κs =
     let o = c .before .before .before .before .before .before .before .before .before .all in
     let a = front-room (s .args .plan .half) (o .last .1 .1 .0) (s .args .scratch .now) (o .kept .1 .1 .0) (omega (arith, s .pre .room)) in
     let b = front-room (s .args .plan .half) (o .last .1 .1 .1 .0) (s .args .output .now) (o .kept .1 .1 .1 .0) (s .pre .other) in
-    (plan-few (s .args .plan) (s .pre .planned), omega (arith, a .0, s .pre .room), omega (arith, b .0, s .pre .other))
+    (plan-half (s .args .plan) (s .pre .planned) .1, omega (arith, a .0, s .pre .room), omega (arith, b .0, s .pre .other))
 
 from-pad-requires : fn.Tie.Need-from-pad-requires
 from-pad-requires c κs =
@@ -29,7 +30,7 @@ from-pad-requires c κs =
     let o = c .before .before .before .before .before .before .before .before .all in
     let a = front-room (s .args .plan .half) (o .last .1 .1 .0) (s .args .scratch .now) (o .kept .1 .1 .0) (omega (arith, s .pre .room)) in
     let b = front-room (s .args .plan .half) (o .last .1 .1 .1 .0) (s .args .output .now) (o .kept .1 .1 .1 .0) (s .pre .other) in
-    (plan-few (s .args .plan) (s .pre .planned), omega (arith, a .0, s .pre .room), omega (arith, b .0, s .pre .other))
+    (plan-half (s .args .plan) (s .pre .planned) .1, omega (arith, a .0, s .pre .room), omega (arith, b .0, s .pre .other))
 
 returns : fn.Tie.Need-returns
 returns c =
