@@ -1,13 +1,13 @@
 -- The first stage: a kernel with its radix ρ written out does what a stage of radix r does, where r is ρ, and its outputs stand side by side.
 -- Assumes nothing.
-use Rattle.sequences.proofs.Basics.{_≡_, refl, sym, ℕ, _+_, _-_, _*_, _≤_, _<_, div-one, mod-one, mul-le-mul-right, suc-mul, arith, Bool, true, false}
-use Rattle.sequences.proofs.Basics.{true≢false, List, getD}
+use Rattle.sequences.proofs.Basics.{_≡_, refl, sym, ℕ, _+_, _-_, _*_, _≤_, _<_, div-one, mod-one, mul-le-mul-right, suc-mul, arith, true, false, true≢false}
+use Rattle.sequences.proofs.Basics.{List, getD}
 use lib.Ieee.{Float}
 use Rattle.schedule.specs.Stage.{index}
 use Rattle.sequences.specs.Lists.{tabulate}
 use Rattle.schedule.proofs.Fill as Fill
 use Rattle.floats.specs.declared.complex.Complex.{Complex}
-use Rattle.floats.specs.Complexes.{blank}
+use Rattle.floats.specs.Complexes.{blank, cell}
 use Rattle.kernel.specs.Parts.{kernelOf, readOf, outputOf, Sized}
 use Rattle.kernel.proofs.Kernel.{outputs-of, eight, sized-at}
 use Rattle.lanes.specs.Parts.{Wrote, Done}
@@ -21,13 +21,18 @@ pub first-asks : {M r ns : ℕ} → Sized M r ns → (ρ : ℕ) → r ≡ ρ →
     → Sized M ρ ns × (k < M) × (true ≡ false → (q : ℕ) → 0 < q → q < ρ → 2 * (0 * 0 + (q - 1) * 0) + 1 < nt)
 first-asks h ρ e k nt l = (sized-at ρ e h, l, λ f. absurd (true≢false f))
 
-pub room-at : {M r ns : ℕ} → Sized M r ns → (k ρ n : ℕ) → r ≡ ρ → k < M → 2 * (M * r) ≤ n → 2 * (k * ρ + ρ) ≤ n
-room-at {r = r} h k ρ n e l room = rw (sym e) (omega (arith, mul-le-mul-right r l, suc-mul k r))
+pub room-at : (M r k n : ℕ) → k < M → 2 * (M * r) ≤ n → (ρ : ℕ) → r ≡ ρ → 2 * (k * ρ + ρ) ≤ n
+room-at M r k n l room ρ e = rw (sym e) (omega (arith, mul-le-mul-right r l, suc-mul k r))
 
-module _ (f : Bool) (M r : ℕ) (src : List Float) (lent : ℕ → ℕ → Complex) (k ρ : ℕ) (c o : List Complex) (e : r ≡ ρ) (some : 0 < ρ) (few : ρ ≤ 8)
-    (reads : (q : ℕ) → q < ρ → getD c q blank ≡ readOf f M src lent k q) (outs : o ≡ tabulate 8 0 (kernelOf ρ (λ q. getD c q blank))) where
-  pub first-arm : (ys ys′ ys″ : List Float) → Wrote (λ p. getD o p blank) (k * ρ) ρ ys ys′ → ys″ ≡ ys′ → Wrote (outputOf f M r src lent k) (k * r) r ys ys″
-  first-arm ys ys′ ys″ w same = rw (same, e) (wrote-as _ _ _ (outputOf f M ρ src lent k) (outputs-of f M src lent k ρ c o some few reads outs) w)
+-- the arm of radix ρ, on the cells c with the outputs o
+pub first-arm : {M r ns : ℕ} → Sized M r ns → (src tw : List Float) (k : ℕ) (ys ys″ : List Float) (ρ : ℕ) → r ≡ ρ → (c o : List Complex)
+    → ((lent : ℕ → ℕ → Complex) → (true ≡ false → (q : ℕ) → 0 < q → q < ρ → cell tw (0 * 0 + (q - 1) * 0) ≡ lent k q) → (q : ℕ) → q < ρ
+    → getD c q blank ≡ readOf true M src lent k q)
+    → o ≡ tabulate 8 0 (kernelOf ρ (λ q. getD c q blank)) → (ys′ : List Float) → Wrote (λ p. getD o p blank) (k * ρ) ρ ys ys′ → ys″ ≡ ys′
+    → (lent : ℕ → ℕ → Complex) → Wrote (outputOf true M r src lent k) (k * r) r ys ys″
+first-arm {M} h src tw k ys ys″ ρ e c o reads outs ys′ w same lent =
+    let all = outputs-of true M src lent k ρ c o (omega (arith, h .some, e)) (omega (arith, h .few, e)) (reads lent (λ f. absurd (true≢false f))) outs in
+    rw (same, e) (wrote-as _ _ _ (outputOf true M ρ src lent k) all w)
 
 index-one : (r i p : ℕ) → index 1 r i p ≡ i * r + p
 unfolding index
@@ -35,5 +40,5 @@ index-one r i p = rw (div-one i, mod-one i) (omega arith)
 
 -- the first stage: iteration i fills r cells from i * r on
 pub first-step : (r i : ℕ) (v : ℕ → ℕ → Complex) (ys ys′ : List Float) → Wrote (v i) (i * r) r ys ys′ → Done 1 r v ys i → Done 1 r v ys′ (i + 1)
-first-step r i v ys ys′ w = Fill.done-iteration 1 r v (omega arith) i (λ i′ p l f. omega (arith, f))
-    (Fill.wrote-as (λ p l. (sym (index-one r i p), refl)) (w .cells))
+first-step r i v ys ys′ w = Fill.done-iteration 1 r v (omega arith) i (λ i′ p l f. omega (arith, f)) (Fill.wrote-as
+    (λ p l. (sym (index-one r i p), refl)) (w .cells))

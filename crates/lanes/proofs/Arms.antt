@@ -24,13 +24,13 @@ lane-room : (j r len n : ℕ) → j < len → 2 * (len * (r - 1)) ≤ n → (q :
 lane-room j r len n l room q lq lq′ = omega (arith, mul-le-mul-right (r - 1) l, suc-mul j (r - 1))
 
 -- what an arm asks for to read its cells
-pub lane-asks : {M r ns len nt : ℕ} {ra ia rb ib : List Float} (i j : ℕ) → Sized M r ns × (i + len ≤ M) × (len ≤ 16) × (2 * (len * (r - 1)) ≤ nt)
-    × Pairs ra ia rb ib × (3 ≤ r)
+pub lane-asks : {M r ns len nt : ℕ} {ra ia rb ib : List Float} (i j : ℕ)
+    → Sized M r ns × (i + len ≤ M) × (len ≤ 16) × (2 * (len * (r - 1)) ≤ nt) × Pairs ra ia rb ib × (3 ≤ r)
     → (ρ : ℕ) → r ≡ ρ → j < len → Sized M ρ ns × (i + j < M) × (false ≡ false → (q : ℕ) → 0 < q → q < ρ → 2 * (j * (ρ - 1) + (q - 1) * 1) + 1 < nt)
 lane-asks {r = r} {len = len} {nt = nt} i j pre ρ e lj = (sized-at ρ e (pre .0), omega arith, λ f. rw e at (lane-room j r len nt lj (pre .3)))
 
-pub four-asks : {M r ns len nt : ℕ} {ra ia rb ib : List Float} (i j : ℕ) → Sized M r ns × (i + len ≤ M) × (len ≤ 4) × (2 * (4 * (r - 1)) ≤ nt)
-    × Pairs ra ia rb ib × (3 ≤ r)
+pub four-asks : {M r ns len nt : ℕ} {ra ia rb ib : List Float} (i j : ℕ)
+    → Sized M r ns × (i + len ≤ M) × (len ≤ 4) × (2 * (4 * (r - 1)) ≤ nt) × Pairs ra ia rb ib × (3 ≤ r)
     → (ρ : ℕ) → r ≡ ρ → j < len → Sized M ρ ns × (i + j < M) × (false ≡ false → (q : ℕ) → 0 < q → q < ρ → 2 * (j * 1 + (q - 1) * 4) + 1 < nt)
 four-asks i j pre ρ e lj = (sized-at ρ e (pre .0), omega arith, λ f q l lq. omega (arith, pre .3, e))
 
@@ -46,7 +46,8 @@ module _ {F : (ℕ → ℕ → Complex) → Type 0} {i M r : ℕ} {src ra ia rb 
   kept-none pairs = record { pairs = pairs; held = λ lent f. (λ x j p lj lp. absurd (omega arith), λ x j p lj lp. absurd (omega arith)) }
 
   module _ {j : ℕ} (before : Kept F i j M r src ra ia rb ib) where
-    pub kept-all : (len : ℕ) → len ≤ j → Pairs ra ia rb ib × ((lent : ℕ → ℕ → Complex) → F lent → Paired i len r (outputOf false M r src lent) ra ia rb ib)
+    pub kept-all : (len : ℕ) → len ≤ j
+        → Pairs ra ia rb ib × ((lent : ℕ → ℕ → Complex) → F lent → Paired i len r (outputOf false M r src lent) ra ia rb ib)
     kept-all len l = (
       before .pairs,
       λ lent f. (λ x j p lj lp. before .held lent f .0 x j p (omega arith) lp, λ x j p lj lp. before .held lent f .1 x j p (omega arith) lp),
@@ -54,20 +55,18 @@ module _ {F : (ℕ → ℕ → Complex) → Type 0} {i M r : ℕ} {src ra ia rb 
 
     -- an arm with radix ρ written out, on the cells c, whose twiddles stand from j * a ρ on, b apart
     module _ (a : ℕ → ℕ) (b : ℕ) (tw : List Float) (few : j < 16)
-        (at : (lent : ℕ → ℕ → Complex) → F lent → (q : ℕ) → 0 < q → q < r → cell tw (j * a r + (q - 1) * b) ≡ lent (i + j) q)
-        (ρ : ℕ) (e : r ≡ ρ) (some : 0 < ρ) (c : List Complex)
+        (at : (lent : ℕ → ℕ → Complex) → F lent → (q : ℕ) → 0 < q → q < r → cell tw (j * a r + (q - 1) * b) ≡ lent (i + j) q) (later : 3 ≤ r)
+        (ρ : ℕ) (e : r ≡ ρ) (c : List Complex)
         (reads : (lent : ℕ → ℕ → Complex) → (false ≡ false → (q : ℕ) → 0 < q → q < ρ → cell tw (j * a ρ + (q - 1) * b) ≡ lent (i + j) q)
         → (q : ℕ) → q < ρ → getD c q blank ≡ readOf false M src lent (i + j) q) (re im : List Float) where
       step : (lent : ℕ → ℕ → Complex) → F lent → {re₀ im₀ re′ im′ : List Float} → Saved (kernelOf ρ (λ q. getD c q blank)) j ρ re₀ im₀ re im → re′ ≡ re
-          → im′ ≡ im
-          → Held i j r (outputOf false M r src lent) re₀ im₀ → Held i (j + 1) r (outputOf false M r src lent) re′ im′
+          → im′ ≡ im → Held i j r (outputOf false M r src lent) re₀ im₀ → Held i (j + 1) r (outputOf false M r src lent) re′ im′
       step lent f {re₀} {im₀} {re′} {im′} w er ei = held-step i j r (outputOf false M r src lent) re₀ im₀ re′ im′ few
           (rw (er, ei, e) (saved-as _ _ _ _ (outputOf false M ρ src lent (i + j))
-          (λ p l. output-of false M src lent (i + j) ρ c some (reads lent (λ g. rw e at (at lent f))) p) w))
+          (λ p l. output-of false M src lent (i + j) ρ c (omega (arith, e)) (reads lent (λ g. rw e at (at lent f))) p) w))
 
       pub low-arm : (ra′ ia′ rb′ ib′ : List Float) → ρ < 7 → Saved (kernelOf ρ (λ q. getD c q blank)) j ρ ra ia re im → ra′ ≡ re → ia′ ≡ im → rb′ ≡ rb
-          → ib′ ≡ ib
-          → Kept F i (j + 1) M r src ra′ ia′ rb′ ib′
+          → ib′ ≡ ib → Kept F i (j + 1) M r src ra′ ia′ rb′ ib′
       low-arm ra′ ia′ rb′ ib′ low w er ei same-r same-i =
           record {
             pairs =
@@ -81,8 +80,7 @@ module _ {F : (ℕ → ℕ → Complex) → Type 0} {i M r : ℕ} {src ra ia rb 
           }
 
       pub high-arm : (ra′ ia′ rb′ ib′ : List Float) → 7 ≤ ρ → Saved (kernelOf ρ (λ q. getD c q blank)) j ρ rb ib re im → ra′ ≡ ra → ia′ ≡ ia → rb′ ≡ re
-          → ib′ ≡ im
-          → Kept F i (j + 1) M r src ra′ ia′ rb′ ib′
+          → ib′ ≡ im → Kept F i (j + 1) M r src ra′ ia′ rb′ ib′
       high-arm ra′ ia′ rb′ ib′ high w same-r same-i er ei =
           record {
             pairs =

@@ -4,7 +4,6 @@ use Rattle.sequences.proofs.Basics.{eq-eqb, ne-eqb, eqb-true, eqb-false}
 use Rattle.counts.specs.Counts.{bufferBy}
 use Rattle.schedule.specs.Stage.{Kernel, Arith, stage, run}
 use Rattle.schedule.specs.Buffers.{Two, across, alternated, copiedBy, driven, heldIn}
-use Rattle.schedule.proofs.Fill.{set-more}
 
 -- the buffer that stage k reads
 abbrev pub sourceBy : {A : Type 0} → Bool → Two A → List A

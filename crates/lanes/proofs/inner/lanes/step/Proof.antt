@@ -29,8 +29,7 @@ returns c =
       waiting-next (p .0) (p .1) (p .2) (p .3) b (c .onward .ensures),
       omega (arith, b .1),
       λ v held. waiting-done (p .0) (p .1) (p .2) (p .3) b (p2 .before .pick .result .now) (p2 .pick2 .result .now) (a .dst .now) (rows .last .1 .1 .1 .0)
-          (rows .ensures) v
-          (picked (a .i) (a .len) (a .r) v _ _ _ _ _ _ (p2 .before .pick .ensures) (p2 .pick2 .ensures) held),
+          (rows .ensures) v (picked (a .i) (a .len) (a .r) v _ _ _ _ _ _ (p2 .before .pick .ensures) (p2 .pick2 .ensures) held),
     )
 
 pub step-spec : {M : Type 1} → fn.Statement.statement M
@@ -41,4 +40,5 @@ step-spec = fn.Tie.close (fn.Tie.spec (λ c κs. search needs) (λ c κs. search
     omega (arith, waiting-room (p .0) (p .1) (p .2) (p .3))) (λ c. search needs) rows-requires
     (λ c κs. let c5 = c .before .before .before .before .before in let c9 = c5 .before .before .before .before in
     let p = c9 .before .before .before .before .before .pre in
-    (waiting-within (p .0) (p .1) (p .2) (p .3) (c5 .batch .ensures), small c9)) (λ c. search needs) (λ c. search needs) returns)
+    (waiting-within (p .0) (p .1) (p .2) (p .3) (c5 .batch .ensures), small c9))
+    (λ c. search needs) (λ c. search needs) returns)
