@@ -1,6 +1,6 @@
 -- Where the twiddles of a stage stand at any width, and that sixteen iterations of them are fetched.
 -- Assumes nothing.
-use Rattle.sequences.proofs.Basics.{_≡_, refl, sym, ap, _∙_, ℕ, _+_, _-_, _*_, _/_, _%_, _≤_, _<_, mul-le-mul, mul-le-mul-right, arith, ℕ-discrete, Bool, true}
+use Rattle.sequences.proofs.Basics.{_≡_, refl, sym, ap, _∙_, ℕ, _+_, _-_, _*_, _/_, _%_, _≤_, _<_, mul-le-mul, mul-le-mul-right, arith, ℕ-discrete, true}
 use Rattle.sequences.proofs.Basics.{false, true≢false, _⊎_, List, eqb, length, take, drop, length-drop, take-all, digits-lt, eqb-false}
 use lib.Ieee.{Float}
 use Rattle.packing.specs.Places.{isWidth}
@@ -12,6 +12,8 @@ use Rattle.floats.specs.Complexes.{cell}
 use Rattle.floats.proofs.Flat.{cell-drop}
 use Rattle.kernel.specs.Floats.{lentAt}
 use Rattle.lanes.specs.Parts.{Wrote, Fetched, Fetched4}
+use Rattle.float_stage.specs.declared.inner.lent.Layout.{Layout}
+use Rattle.float_stage.specs.declared.inner.lent.Layout.the-variants.{Beside, Apart}
 
 -- a width that is neither 1 nor 4 is 2
 pub two-left : (W : ℕ) → isWidth W ≡ true → (W ≡ 1 → ⊥) → eqb W 4 ≡ false → W ≡ 2
@@ -84,11 +86,14 @@ pub four-part : (i n M r : ℕ) (tw p : List Float) {from : ℕ} → from ≡ 2 
 four-part i n M r tw p at is whole four inside room = rw (is, at)
     (fetched4-here i n M r tw whole (omega arith) inside, here-room i 4 M r tw (omega arith) room)
 
+pub unlike : {l : Layout} → l ≡ Beside → l ≡ Apart → ⊥
+unlike p q = let z : _≡_ {A = ℕ} 0 1 = cc in omega arith
+
 -- read where they stand or fetched
-pub lent-part : (here : Bool) (i n M r W : ℕ) (tw t p : List Float) {from : ℕ} → from ≡ 2 * (i * (r - 1)) → (here ≡ true → (W ≡ 1) ⊎ (W ≡ 4))
+pub lent-part : (layout : Layout) (i n M r W : ℕ) (tw t p : List Float) {from : ℕ} → from ≡ 2 * (i * (r - 1)) → (layout ≡ Beside → (W ≡ 1) ⊎ (W ≡ 4))
     → (W ≡ 4 → M / 4 * 4 ≤ i) → i + n ≤ M → n ≤ 16 → r ≤ 8 → 2 * (M * (r - 1)) ≤ length tw → length t ≡ 224
-    → (here ≡ true → p ≡ drop from tw) × (here ≡ false → p ≡ t) → (here ≡ false → Fetched i n r (lentAt M r W tw) t)
+    → (layout ≡ Beside → p ≡ drop from tw) × (layout ≡ Apart → p ≡ t) → (layout ≡ Apart → Fetched i n r (lentAt M r W tw) t)
     → Fetched i n r (lentAt M r W tw) p × (2 * (n * (r - 1)) ≤ length p)
-lent-part true i n M r W tw t p at which past l ln lr room lt is f =
+lent-part Beside i n M r W tw t p at which past l ln lr room lt is f =
     rw (is .0 refl, at) (fetched-here i n M r W tw (which refl) past, here-room i n M r tw l room)
-lent-part false i n M r W tw t p at which past l ln lr room lt is f = rw (is .1 refl) (f refl, omega (arith, small-lanes n r ln lr, lt))
+lent-part Apart i n M r W tw t p at which past l ln lr room lt is f = rw (is .1 refl) (f refl, omega (arith, small-lanes n r ln lr, lt))

@@ -2,7 +2,7 @@
 use floats::inner::cells::get;
 use floats::inner::cells::put;
 ghost use mathlib.Core.Path.{_≡_};
-ghost use mathlib.Core.Bool.{true, false};
+ghost use mathlib.Core.Bool.{true};
 ghost use mathlib.Core.Logic.{_⊎_};
 ghost use Prim.Native.Nat.{ℕ, _+_, _-_, _*_, _^_, _<_, _≤_};
 ghost use lib.ListN.{length, drop};
@@ -11,6 +11,13 @@ ghost use Rattle.floats.specs.Complexes.{cell};
 ghost use Rattle.kernel.specs.Floats.{lentAt};
 ghost use Rattle.lanes.specs.Parts.{Fetched, Wrote};
 ghost use Rattle.float_stage.specs.Parts.{Lending};
+ghost use Rattle.float_stage.specs.declared.inner.lent.Layout.the-variants.{Beside, Apart};
+
+// How the twiddles of iterations that are in no whole lanes of 4 stand: one iteration after the other, or apart, to be fetched.
+pub enum Layout {
+    Beside,
+    Apart,
+}
 
 // n cells of tw from `from` on, every step-th, to the cells of t from `at` on.
 fn gather(tw: &[f32], t: &mut [f32], at: usize, from: usize, n: usize, step: usize)
@@ -48,27 +55,33 @@ pub fn fetch(
     len: usize,
     r: usize,
     w: usize,
-    here: bool,
+    layout: Layout,
 )
-    requires { ⌜ Lending m r (length (now tw)) (length (now t)) × (here ≡ false → w ≡ 2) × (i + len ≤ m) × (len ≤ 16) ⌝ }
-    ensures { λ _. ⌜ (here ≡ false → Fetched i len r (lentAt m r w (now (tw .entry))) (now (t .exit))) ⌝ }
+    requires { ⌜ Lending m r (length (now tw)) (length (now t)) × (layout ≡ Apart → w ≡ 2) × (i + len ≤ m) × (len ≤ 16) ⌝ }
+    ensures { λ _. ⌜ (layout ≡ Apart → Fetched i len r (lentAt m r w (now (tw .entry))) (now (t .exit))) ⌝ }
 {
-    if here {
-        return;
-    }
-    let mut j = 0;
-    while j < len {
-        fetch_one(tw, t, j, i + j, m, r, w);
-        j += 1;
+    match layout {
+        Layout::Beside => {}
+        Layout::Apart => {
+            let mut j = 0;
+            while j < len {
+                fetch_one(tw, t, j, i + j, m, r, w);
+                j += 1;
+            }
+        }
     }
 }
 
-// Whether the twiddles of an iteration that is in no whole lanes of 4 stand side by side.
-pub fn stand(w: usize) -> bool
+// The layout of a width.
+pub fn laid_out(w: usize) -> Layout
     requires { ⌜ isWidth w ≡ true ⌝ }
-    ensures { λ b. ⌜ (b ≡ true → (w ≡ 1) ⊎ (w ≡ 4)) × (b ≡ false → w ≡ 2) ⌝ }
+    ensures { λ l. ⌜ (l ≡ Beside → (w ≡ 1) ⊎ (w ≡ 4)) × (l ≡ Apart → w ≡ 2) ⌝ }
 {
-    w == 1 || w == 4
+    if w == 1 || w == 4 {
+        Layout::Beside
+    } else {
+        Layout::Apart
+    }
 }
 
 // The number of the first word of the twiddles of iteration i, where they stand one iteration after the other.
@@ -79,10 +92,13 @@ pub fn first_word(i: usize, r: usize) -> usize
     2 * (i * (r - 1))
 }
 
-// The words of tw from `from` on, if they stand there, or those fetched.
-pub fn lent<'a>(tw: &'a [f32], t: &'a [f32], here: bool, from: usize) -> &'a [f32]
+// The words of tw from `from` on, or those fetched.
+pub fn lent<'a>(tw: &'a [f32], t: &'a [f32], layout: Layout, from: usize) -> &'a [f32]
     requires { ⌜ from ≤ length (now tw) ⌝ }
-    ensures { λ p. ⌜ (here ≡ true → now p ≡ drop from (now (tw .entry))) × (here ≡ false → now p ≡ now (t .entry)) ⌝ }
+    ensures { λ p. ⌜ (layout ≡ Beside → now p ≡ drop from (now (tw .entry))) × (layout ≡ Apart → now p ≡ now (t .entry)) ⌝ }
 {
-    if here { &tw[from..] } else { t }
+    match layout {
+        Layout::Beside => &tw[from..],
+        Layout::Apart => t,
+    }
 }

@@ -1,9 +1,10 @@
 // A float stage, sixteen iterations at a time.
 use crate::inner::first::first;
+use crate::inner::lent::Layout;
 use crate::inner::lent::fetch;
 use crate::inner::lent::first_word;
+use crate::inner::lent::laid_out;
 use crate::inner::lent::lent;
-use crate::inner::lent::stand;
 use counts::inner::stages::stride;
 use lanes::inner::fours::lanes4;
 use lanes::inner::fours::store4;
@@ -68,7 +69,7 @@ fn by_fours(
         let len = least(end - i, 4);
         lanes4(
             src,
-            lent(tw, tw, true, first_word(i, r)),
+            lent(tw, tw, Layout::Beside, first_word(i, r)),
             &mut ra,
             &mut ia,
             &mut rb,
@@ -105,15 +106,15 @@ fn by_sixteens(
     let mut ia = [0.0f32; 128];
     let mut rb = [0.0f32; 128];
     let mut ib = [0.0f32; 128];
-    let here = stand(w);
+    let layout = laid_out(w);
     let mut at = start;
     let mut i = end;
     while i < m {
         let len = least(m - i, 16);
-        fetch(tw, &mut t, i, m, len, r, w, here);
+        fetch(tw, &mut t, i, m, len, r, w, layout);
         lanes(
             src,
-            lent(tw, &t, here, first_word(i, r)),
+            lent(tw, &t, layout, first_word(i, r)),
             &mut ra,
             &mut ia,
             &mut rb,

@@ -8,12 +8,12 @@ use Rattle.float_stage.proofs.Rounds.{even-batch, Round, round-asks, ro
 use Rattle.float_stage.proofs.inner.stage.by_sixteens as fn
 
 abbrev Inv-loop : fn.Tie.InvT-loop
-Inv-loop src tw dst₀ end m s r w even t₀ ra₀ ia₀ rb₀ ib₀ here at₀ i₀ dst t ra ia rb ib at i =
+Inv-loop src tw dst₀ end m s r w even t₀ ra₀ ia₀ rb₀ ib₀ layout at₀ i₀ dst t ra ia rb ib at i =
     (length t ≡ 224) × (w ≡ 4 → m / 4 * 4 ≤ i)
     × Round even m s r (outputOf false m r src (lentAt m r w tw)) end ra ia rb ib dst₀ dst (at .block) (at .col) i
 
 abbrev μ-loop : fn.Tie.MeasureT-loop
-μ-loop src tw dst₀ end m s r w even t₀ ra₀ ia₀ rb₀ ib₀ here at₀ i₀ dst t ra ia rb ib at i = m - i
+μ-loop src tw dst₀ end m s r w even t₀ ra₀ ia₀ rb₀ ib₀ layout at₀ i₀ dst t ra ia rb ib at i = m - i
 
 loop-holds : fn.Tie.Need-loop-holds Inv-loop μ-loop
 loop-holds c =
@@ -64,9 +64,9 @@ part : (c : fn.Tie.After-lent Inv-loop μ-loop)
     × (2 * (n * (a .r - 1)) ≤ length (c .lent .result .now))
 part c =
     let n = c .before .before .before .before .before .before in let fetch = c .before .before .before .before .fetch in let l = n .before .before .loop in
-    let stand = c .before .before .before .before .before .before .before .before .before .stand in
+    let laid = c .before .before .before .before .before .before .before .before .before .laid-out in
     let s = c .before .before .before .before .before .before .before .before .before .before .before .before .before in let a = s .args in
-    lent-part (stand .result) (l .i) (n .least .result) (a .m) (a .r) (a .w) (a .tw .now) _ _ (c .before .first-word .ensures) (stand .ensures .0) (l .inv .1)
+    lent-part (laid .result) (l .i) (n .least .result) (a .m) (a .r) (a .w) (a .tw .now) _ _ (c .before .first-word .ensures) (laid .ensures .0) (l .inv .1)
     (fits n) (n .least .ensures .1) (s .pre .0 .few) (s .pre .1 .lent) (fetch .kept .1 .0 ∙ l .inv .0) (c .lent .ensures) (fetch .ensures)
 
 lanes-requires : fn.Tie.Need-lanes-requires Inv-loop μ-loop
@@ -96,7 +96,7 @@ loop-again c =
 pub by-sixteens-spec : {M : Type 1} → fn.Statement.statement M
 by-sixteens-spec = fn.Tie.close (fn.Tie.spec Inv-loop μ-loop (λ c κs. search needs) loop-holds (λ c. search needs) (λ c κs. search needs)
     (λ c. search needs) (λ c κs. let n = c .before in
-    (rw (n .before .before .loop .inv .0) (start n .pre .1), n .before .before .before .stand .ensures .1, fits n, n .least .ensures .1))
+    (rw (n .before .before .loop .inv .0) (start n .pre .1), n .before .before .before .laid-out .ensures .1, fits n, n .least .ensures .1))
     (λ c. sym (c .before .before .fetch .kept .1 .0 ∙ c .before .before .before .before .before .before .loop .inv .0))
     (λ c κs. (
       omega (arith, c .before .before .before .before .before .before .before .before .before .before .before .pre .0 .some),
