@@ -1,10 +1,10 @@
 -- Complex arithmetic in binary32, each operation rounded once, and complex cells in a flat list: cell n is words 2 * n and 2 * n + 1.
 -- Assumes nothing.
-use Prim.Native.Nat.{ℕ, _+_, _*_}
+use Prim.Native.Nat.{ℕ}
 use mathlib.Core.Path.{_≡_}
 use mathlib.Core.List.{List, [], _∷_}
-use lib.ListN.{getD, set}
 use lib.Ieee.{Float, nan, binary32, add, sub, mul, neg}
+use Rattle.sequences.specs.Pairs.{pairAt, putPair}
 use Rattle.turn.specs.declared.Turn.{Turn}
 use Rattle.turn.specs.declared.Turn.the-variants.{Zero, Quarter, Half, ThreeQuarter, General}
 use Rattle.floats.specs.declared.complex.Complex.{Complex}
@@ -41,11 +41,15 @@ turnedBy (General c s) x = times x (cx c s)
 
 -- ---- cells
 
+-- a pair of words as a cell
+abbrev pub ofPair : Float × Float → Complex
+ofPair w = cx (w .0) (w .1)
+
 abbrev pub cell : List Float → ℕ → Complex
-cell xs n = cx (getD xs (2 * n) nan) (getD xs (2 * n + 1) nan)
+cell xs n = ofPair (pairAt nan xs n)
 
 abbrev pub putCell : List Float → ℕ → Complex → List Float
-putCell xs n z = set (set xs (2 * n) (z .re)) (2 * n + 1) (z .im)
+putCell xs n z = putPair xs n (z .re, z .im)
 
 -- the cells of a flat list, and back
 unfoldable pub paired : List Float → List Complex
