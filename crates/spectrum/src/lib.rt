@@ -1,6 +1,7 @@
 // Spectra of real samples: forward and inverse.
 pub mod inner;
 
+use floats::inner::scan::CEILING;
 use inner::check::is_bins;
 use inner::check::lent;
 use plan::Record;
@@ -69,7 +70,7 @@ pub fn inverse(
         is_input,
         is_output,
         scratch.len(),
-        281474976710656.0,
+        CEILING,
         input,
         stage_twiddles,
         end_twiddles,

@@ -5,6 +5,9 @@ ghost use Prim.Native.Nat.{ℕ, _+_, _≤_};
 ghost use lib.ListN.{length};
 ghost use Rattle.floats.specs.Scan.{firstUnfit, bound, Passed, SquaresTell, AllWithin, within as Scan·within};
 
+// 2^48: numbers of bins, and those that a stage is given, are at most this.
+pub const CEILING: f32 = 281474976710656.0;
+
 // Whether x is at most b in magnitude: false at a NaN.
 fn within(x: f32, b: f32) -> bool
     ensures { λ r. ⌜ r ≡ Scan·within b x ⌝ }
@@ -67,12 +70,12 @@ fn passed_to_end(xs: &[f32], b: f32) -> usize
     n
 }
 
-// The index of the first number that is not within b, a power of two, or the length. Up to 2^48, the largest bound in use, the squares tell.
+// The index of the first number that is not within b, a power of two, or the length. Up to the ceiling, the largest bound in use, the squares tell.
 pub fn first_unfit(xs: &[f32], b: f32) -> usize
     ensures { λ r. ⌜ ((k : ℕ) → b ≡ bound k → r ≡ firstUnfit k (now (xs .entry))) ⌝ }
 {
     let mut i: usize = 0;
-    if b <= 281474976710656.0 {
+    if b <= CEILING {
         i = passed_to_end(xs, b);
     }
     let place = loop {

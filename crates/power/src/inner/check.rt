@@ -1,4 +1,5 @@
 // Which lengths, bins and numbers a sum of power takes.
+use floats::inner::scan::CEILING;
 use floats::inner::scan::first_unfit;
 use refusal::Refusal;
 use refusal::Verdict;
@@ -25,7 +26,7 @@ pub fn lent_bins(spectrum: &[f32], lo: usize, hi: usize) -> Verdict
     if hi >= words / 2 {
         return Verdict::Refused(Refusal::Bins);
     }
-    let large = first_unfit(spectrum, 281474976710656.0);
+    let large = first_unfit(spectrum, CEILING);
     if large < words {
         return Verdict::Refused(Refusal::Number(large));
     }

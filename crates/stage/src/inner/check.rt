@@ -1,5 +1,6 @@
 // Which plans, stages, widths, lengths and numbers are taken.
 use counts::inner::stages::twiddle_count;
+use floats::inner::scan::CEILING;
 use floats::inner::scan::first_unfit;
 use packing::inner::places::is_width;
 use plan::Record;
@@ -45,7 +46,7 @@ fn sizes(
 fn numbers(input: &[f32], twiddles: &[f32]) -> Verdict
     ensures { λ r. ⌜ r ≡ numberVerdict (now (input .entry)) (now (twiddles .entry)) ⌝ }
 {
-    let large = first_unfit(input, 281474976710656.0);
+    let large = first_unfit(input, CEILING);
     if large < input.len() {
         return Verdict::Refused(Refusal::Number(large));
     }
