@@ -21,7 +21,7 @@ use Rattle.schedule.specs.Stage.{twiddleTurn, kernelTurn, iteration, place, twi
 use Rattle.turn.specs.Turns as Turns
 use Rattle.packing.specs.Places.{isWidth}
 use Rattle.floats.specs.Complexes.{paired, flat}
-use Rattle.floats.specs.Scan.{fits, firstUnfit}
+use Rattle.scan.specs.Scan.{fits, firstUnfit}
 use Rattle.floats.specs.declared.complex.Complex.{Complex}
 use Rattle.kernel.specs.Floats.{floats, stageOf}
 use Rattle.ends.specs.Ends.{endCell, ended, conjugated}

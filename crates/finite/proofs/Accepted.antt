@@ -6,8 +6,8 @@ use lib.Ieee.{Float, nan, inf, fin, up, down}
 use Rattle.refusal.specs.declared.Verdict.the-variants.{Accepted}
 use Rattle.refusal.proofs.Rows.{deciding}
 use Rattle.plan.specs.declared.Record.{Record}
-use Rattle.floats.specs.Scan.{fits, firstUnfit}
-use Rattle.floats.proofs.Scan.{none-fails}
+use Rattle.scan.specs.Scan.{fits, firstUnfit}
+use Rattle.scan.proofs.Scan.{none-fails}
 use Rattle.spectrum.specs.Calls.{lentVerdict}
 use Rattle.spectrum.proofs.Verdicts.{all-fit}
 use Rattle.finite.specs.Sizes.{AtMost, Words, RightlyLent}

@@ -12,7 +12,7 @@ use Rattle.schedule.specs.Stage.{stage, plain}
 use Rattle.packing.specs.Places.{place}
 use Rattle.packing.proofs.Widths.{width-bounds}
 use Rattle.floats.specs.Complexes.{cell, paired}
-use Rattle.floats.specs.Scan.{firstUnfit}
+use Rattle.scan.specs.Scan.{firstUnfit}
 use Rattle.floats.specs.declared.complex.Complex.{Complex}
 use Rattle.kernel.specs.Floats.{floats, lentAt, stageOf}
 use Rattle.packing.proofs.Places.{place-lt}

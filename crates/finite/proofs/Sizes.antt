@@ -7,7 +7,7 @@ use lib.Ieee.Exact.{HasValue, units-val}
 use lib.Ieee.Fits.{down-pos, round-is}
 use lib.Ieee.Order.{drop, kept}
 use lib.Ieee.Scale.{grid, overflow}
-use Rattle.floats.specs.Scan.{fits}
+use Rattle.scan.specs.Scan.{fits}
 use Rattle.finite.specs.Sizes.{AtMost}
 use Rattle.finite.proofs.Rounding.{grid-bound}
 

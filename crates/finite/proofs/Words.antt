@@ -11,10 +11,10 @@ use Rattle.schedule.specs.Stage.{plain, stage}
 use Rattle.schedule.proofs.Buffers.{both-long}
 use Rattle.schedule.proofs.Cells.{length-stage}
 use Rattle.floats.specs.Complexes.{cell, paired, flat}
-use Rattle.floats.specs.Scan.{fits, firstUnfit}
+use Rattle.scan.specs.Scan.{fits, firstUnfit}
 use Rattle.floats.specs.declared.complex.Complex.{Complex}
 use Rattle.floats.proofs.Flat.{get-paired}
-use Rattle.floats.proofs.Scan.{all-pass}
+use Rattle.scan.proofs.Scan.{all-pass}
 use Rattle.kernel.specs.Floats.{floats}
 use Rattle.stage.specs.Runs.{ownOf, stageIn, runOf, lentTo}
 use Rattle.stage.proofs.Runs.{length-made}

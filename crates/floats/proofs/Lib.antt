@@ -1,6 +1,5 @@
 -- The laws that the proofs share, by subject.
 pub mod Flat
-pub mod Scan
+pub mod Passes
 pub mod Signs
-pub mod Squares
 pub mod Unique

@@ -5,7 +5,7 @@ use Rattle.refusal.specs.declared.Verdict.{Verdict}
 use Rattle.refusal.specs.declared.Verdict.the-variants.{Accepted}
 use Rattle.refusal.proofs.Rows.{deciding, accepted}
 use Rattle.floats.specs.Complexes.{cell}
-use Rattle.floats.specs.Scan.{firstUnfit}
+use Rattle.scan.specs.Scan.{firstUnfit}
 use Rattle.floats.specs.declared.complex.Complex.{Complex}
 use Rattle.power.specs.Power.{powerOf, powerFrom, powerVerdict}
 

@@ -12,7 +12,7 @@ use Rattle.refusal.specs.declared.Verdict.{Verdict}
 use Rattle.refusal.specs.declared.Verdict.the-variants.{Accepted, Refused}
 use Rattle.turn.specs.Turns.{+0}
 use Rattle.floats.specs.Complexes.{cell}
-use Rattle.floats.specs.Scan.{ceiling, firstUnfit}
+use Rattle.scan.specs.Scan.{ceiling, firstUnfit}
 use Rattle.floats.specs.declared.complex.Complex.{Complex}
 use Rattle.power.specs.declared.Summed.{Summed}
 

@@ -14,7 +14,7 @@ use Rattle.schedule.specs.Buffers.{alternated, driven}
 use Rattle.turn.specs.Turns.{+0, +1}
 use Rattle.packing.specs.Places.{isWidth}
 use Rattle.floats.specs.Complexes.{flat}
-use Rattle.floats.specs.Scan.{fits, firstUnfit}
+use Rattle.scan.specs.Scan.{fits, firstUnfit}
 use Rattle.ends.specs.Ends.{endCell, ended}
 use Rattle.spectrum.specs.Calls.{Forwards, forwardVerdict, lentVerdict}
 use Rattle.transform.specs.Transforms.{Slices, forwardRun, forwardOf}

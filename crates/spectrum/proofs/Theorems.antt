@@ -16,7 +16,7 @@ use Rattle.schedule.proofs.Buffers.{driven-same}
 use Rattle.packing.specs.Places.{isWidth}
 use Rattle.packing.proofs.Widths.{width-bounds}
 use Rattle.floats.specs.Complexes.{paired, flat}
-use Rattle.floats.specs.Scan.{fits, firstUnfit}
+use Rattle.scan.specs.Scan.{fits, firstUnfit}
 use Rattle.sequences.proofs.First.{joined-none}
 use Rattle.stage.specs.Runs.{stageIn, runOf, lentTo, Alike}
 use Rattle.stage.proofs.Accepted.{all-fit-alike}

@@ -9,7 +9,7 @@ use Rattle.counts.specs.Counts.{stageTwiddles, endCount}
 use Rattle.plan.specs.Record.{isPlanned}
 use Rattle.plan.specs.declared.Record.{Record}
 use Rattle.packing.specs.Places.{isWidth}
-use Rattle.floats.specs.Scan.{fits, firstUnfit}
+use Rattle.scan.specs.Scan.{fits, firstUnfit}
 use Rattle.sequences.proofs.First.{joined-first, joined-second}
 use Rattle.spectrum.specs.Calls.{binWords, lentVerdict}
 use Rattle.transform.specs.Parts.{Forwardable, Invertible}

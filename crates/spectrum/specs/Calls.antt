@@ -12,7 +12,7 @@ use Rattle.counts.specs.Counts.{stageTwiddles, endCount}
 use Rattle.plan.specs.Record.{isPlanned}
 use Rattle.plan.specs.declared.Record.{Record}
 use Rattle.packing.specs.Places.{isWidth}
-use Rattle.floats.specs.Scan.{ceiling, firstUnfit}
+use Rattle.scan.specs.Scan.{ceiling, firstUnfit}
 use Rattle.transform.specs.Transforms.{Slices, forwardOf, inverseOf}
 
 -- how many words the bins of a plan have

@@ -1,11 +1,11 @@
 // Spectra of real samples: forward and inverse.
 pub mod inner;
 
-use floats::inner::scan::CEILING;
 use inner::check::is_bins;
 use inner::check::lent;
 use plan::Record;
 use refusal::Verdict;
+use scan::inner::scan::CEILING;
 use transform::inner::directions;
 ghost use Rattle.spectrum.specs.Calls.{Forwards, Inverts};
 

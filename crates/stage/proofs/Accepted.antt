@@ -13,9 +13,9 @@ use Rattle.packing.specs.Places.{isWidth, place, iterationAt, numberAt}
 use Rattle.twiddle.proofs.Theorems.{each-stands, each-filled}
 use Rattle.packing.proofs.Widths.{width-bounds}
 use Rattle.floats.specs.Complexes.{cell}
-use Rattle.floats.specs.Scan.{fits, firstUnfit}
+use Rattle.scan.specs.Scan.{fits, firstUnfit}
 use Rattle.floats.specs.declared.complex.Complex.{Complex}
-use Rattle.floats.proofs.Scan.{BothPass, cell-passes, no-cell-fails}
+use Rattle.floats.proofs.Passes.{BothPass, cell-passes, no-cell-fails}
 use Rattle.kernel.specs.Floats.{lentAt}
 use Rattle.stage.specs.Calls.{stageVerdict}
 use Rattle.stage.specs.Runs.{lentTo, Agree, AgreeAll}

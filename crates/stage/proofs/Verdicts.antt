@@ -5,7 +5,7 @@ use Rattle.refusal.specs.declared.Verdict.{Verdict}
 use Rattle.refusal.specs.declared.Verdict.the-variants.{Accepted}
 use Rattle.refusal.proofs.Rows.{accepted}
 use Rattle.plan.specs.declared.Record.{Record}
-use Rattle.floats.specs.Scan.{firstUnfit}
+use Rattle.scan.specs.Scan.{firstUnfit}
 use Rattle.float_stage.specs.Parts.{Workable}
 use Rattle.stage.specs.Calls.{stageVerdict}
 

@@ -12,7 +12,7 @@ use Rattle.counts.specs.Counts.{twiddleCount}
 use Rattle.plan.specs.Record.{isPlanned}
 use Rattle.plan.specs.declared.Record.{Record}
 use Rattle.packing.specs.Places.{isWidth}
-use Rattle.floats.specs.Scan.{ceiling, firstUnfit}
+use Rattle.scan.specs.Scan.{ceiling, firstUnfit}
 use Rattle.kernel.specs.Floats.{stageOf}
 
 -- refusals 5, 15, 6 and 8 of slices of so many words, in this order: 2h in, 2h out, two for each of the stage's own twiddles

@@ -1,8 +1,8 @@
 // Which lengths, bins and numbers a sum of power takes.
-use floats::inner::scan::CEILING;
-use floats::inner::scan::first_unfit;
 use refusal::Refusal;
 use refusal::Verdict;
+use scan::inner::scan::CEILING;
+use scan::inner::scan::first_unfit;
 ghost use mathlib.Core.Path.{_≡_};
 ghost use Rattle.power.specs.Power.{powerVerdict};
 

@@ -1,16 +1,16 @@
 // Which plans, widths, lengths and numbers are taken.
 use counts::inner::stages::end_count;
 use counts::inner::stages::twiddle_start;
-use floats::inner::scan::first_unfit;
 use packing::inner::places::is_width;
 use plan::Record;
 use plan::inner::records::is_planned;
 use refusal::Refusal;
 use refusal::Verdict;
+use scan::inner::scan::first_unfit;
 ghost use mathlib.Core.Path.{_≡_};
 ghost use Prim.Native.Nat.{ℕ, _+_, _*_};
 ghost use lib.Dec.{eqb};
-ghost use Rattle.floats.specs.Scan.{bound};
+ghost use Rattle.scan.specs.Scan.{bound};
 ghost use Rattle.spectrum.specs.Calls.{sizeVerdict, numberVerdict, lentVerdict};
 
 // Whether so many words are those of h + 1 bins.

@@ -1,12 +1,12 @@
 // Which plans, stages, widths, lengths and numbers are taken.
 use counts::inner::stages::twiddle_count;
-use floats::inner::scan::CEILING;
-use floats::inner::scan::first_unfit;
 use packing::inner::places::is_width;
 use plan::Record;
 use plan::inner::records::is_planned;
 use refusal::Refusal;
 use refusal::Verdict;
+use scan::inner::scan::CEILING;
+use scan::inner::scan::first_unfit;
 ghost use mathlib.Core.Path.{_≡_};
 ghost use Rattle.stage.specs.Calls.{sizeVerdict, numberVerdict, stageVerdict};
 

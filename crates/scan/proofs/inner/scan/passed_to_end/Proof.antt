@@ -1,7 +1,7 @@
--- `floats::inner::scan::passed_to_end` meets its contract. Assumes nothing.
+-- `scan::inner::scan::passed_to_end` meets its contract. Assumes nothing.
 use Rattle.sequences.proofs.Basics.{not-false, needs}
-use Rattle.floats.proofs.Scan.{pass-end}
-use Rattle.floats.proofs.inner.scan.passed_to_end as fn
+use Rattle.scan.proofs.Scan.{pass-end}
+use Rattle.scan.proofs.inner.scan.passed_to_end as fn
 
 returns-4 : fn.Tie.Need-returns-4
 returns-4 c =

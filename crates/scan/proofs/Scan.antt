@@ -1,13 +1,11 @@
 -- The first number at which a test fails, step by step; where there is none; and that the test at a bound 2 ^ k is the definition's. Assumes nothing.
-use Rattle.sequences.proofs.Basics.{_≡_, refl, sym, ap, subst, _∙_, ℕ, zero, suc, _+_, _-_, _*_, _/_, _%_, _^_, _<_, _≤_, mul-one, one-mul, mul-pos}
+use Rattle.sequences.proofs.Basics.{_≡_, refl, sym, ap, subst, _∙_, ℕ, zero, suc, _+_, _-_, _*_, _^_, _<_, _≤_, mul-one, one-mul, mul-pos}
 use Rattle.sequences.proofs.Basics.{eq-or-lt-of-le, lt-of-not-le, add-zero, arith, decLe, ℕ-discrete, Bool, true, false, not, _&&_, _||_, inl, inr, dite, List}
 use Rattle.sequences.proofs.Basics.{ltb, leb, eqb, length, getD, drop, pow-pos, pow-lt, not-false, leb-true, lt-ltb, le-ltb, le-leb, lt-leb, eq-eqb, ne-eqb}
 use lib.Ieee.{Float, nan, inf, fin, le, lt, eq, neg, up, down, binary32, ofBits}
 use lib.Ieee.Fits.{down-pos}
 use Rattle.sequences.proofs.First.{first-skip, first-same, none-passes, each-fails}
-use Rattle.floats.specs.declared.complex.Complex.{Complex}
-use Rattle.floats.specs.Complexes.{cell}
-use Rattle.floats.specs.Scan.{fits, firstNot, firstUnfit, bound, within, Passed, AllWithin}
+use Rattle.scan.specs.Scan.{fits, firstNot, firstUnfit, bound, within, Passed, AllWithin}
 
 -- where the first i pass, the answer is i and the answer for the rest
 pub first-pass : (p : Float → Bool) (xs : List Float) (i : ℕ) → i < length xs → p (getD xs i nan) ≡ true
@@ -50,22 +48,6 @@ all-pass f xs l i li = not-false _ (none-passes nan (λ (x : Float). not (f x)) 
 -- and where every number passes there is none
 pub none-fails : (f : Float → Bool) (xs : List Float) → ((i : ℕ) → i < length xs → f (getD xs i nan) ≡ true) → length xs ≤ firstNot f xs
 none-fails f xs each = each-fails nan (λ (x : Float). not (f x)) xs (λ i li. ap not (each i li))
-
--- both words of a cell pass
-abbrev pub BothPass : (Float → Bool) → Complex → Type 0
-BothPass f z = (f (z .re) ≡ true) × (f (z .im) ≡ true)
-
--- those of each cell do
-pub cell-passes : (f : Float → Bool) (xs : List Float) → length xs ≤ firstNot f xs → (n : ℕ) → 2 * n + 1 < length xs → BothPass f (cell xs n)
-cell-passes f xs l n ln = (all-pass f xs l (2 * n) (omega arith), all-pass f xs l (2 * n + 1) ln)
-
--- and where those of each cell do there is none
-pub no-cell-fails : (f : Float → Bool) (xs : List Float) (m : ℕ) → length xs ≡ 2 * m → ((n : ℕ) → n < m → BothPass f (cell xs n)) → length xs ≤ firstNot f xs
-no-cell-fails f xs m e each = none-fails f xs (λ i li. pick i li (ℕ-discrete (i % 2) 0))
-  where
-    pick : (i : ℕ) → i < length xs → Dec (i % 2 ≡ 0) → f (getD xs i nan) ≡ true
-    pick i li (yes z) = subst (λ (k : ℕ). f (getD xs k nan) ≡ true) {x = 2 * (i / 2)} {y = i} (omega arith) (each (i / 2) (omega arith) .0)
-    pick i li (no z) = subst (λ (k : ℕ). f (getD xs k nan) ≡ true) {x = 2 * (i / 2) + 1} {y = i} (omega arith) (each (i / 2) (omega arith) .1)
 
 -- ---- the code's test
 and-true : (b : Bool) → (b && true) ≡ b

@@ -1,8 +1,8 @@
--- `floats::inner::scan::all_within` meets its contract. Assumes nothing.
+-- `scan::inner::scan::all_within` meets its contract. Assumes nothing.
 use Rattle.sequences.proofs.Basics.{_≡_, sym, subst, _∙_, _≤_, _+_, _-_, arith, true, false≢true, ⊎-elim, not-false, needs}
-use Rattle.floats.specs.Scan.{SquaresTell, AllWithin}
-use Rattle.floats.proofs.Scan.{within-next}
-use Rattle.floats.proofs.inner.scan.all_within as fn
+use Rattle.scan.specs.Scan.{SquaresTell, AllWithin}
+use Rattle.scan.proofs.Scan.{within-next}
+use Rattle.scan.proofs.inner.scan.all_within as fn
 
 abbrev Inv-loop : fn.Tie.InvT-loop
 Inv-loop xs i b bb all₀ k₀ all k = (k ≤ 64) × (all ≡ true → SquaresTell b → AllWithin b xs i k)

@@ -1,8 +1,8 @@
--- `floats::inner::scan::passed` meets its contract. Assumes nothing.
+-- `scan::inner::scan::passed` meets its contract. Assumes nothing.
 use Rattle.sequences.proofs.Basics.{sym, _≤_, _+_, _*_, zero-add, arith, length, not-false, needs}
-use Rattle.floats.specs.Scan.{SquaresTell, Passed}
-use Rattle.floats.proofs.Scan.{pass-all}
-use Rattle.floats.proofs.inner.scan.passed as fn
+use Rattle.scan.specs.Scan.{SquaresTell, Passed}
+use Rattle.scan.proofs.Scan.{pass-all}
+use Rattle.scan.proofs.inner.scan.passed as fn
 
 abbrev Inv-loop : fn.Tie.InvT-loop
 Inv-loop xs b i₀ left₀ i left = (i + 64 * left ≤ length xs) × (SquaresTell b → Passed b xs i)

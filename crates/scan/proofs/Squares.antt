@@ -9,8 +9,8 @@ use lib.Ieee.Exact.{HasValue, round-exact}
 use lib.Ieee.Fits.{and-l, and-r, down-pos}
 use lib.Ieee.Order.{round-mono}
 use lib.Ieee.Positive.{between, le-trans-positive, positive-of-value, values-of-le}
-use Rattle.floats.specs.Scan.{fits as Scan·fits, bound, SquaresTell}
-use Rattle.floats.proofs.Scan.{within-fits}
+use Rattle.scan.specs.Scan.{fits as Scan·fits, bound, SquaresTell}
+use Rattle.scan.proofs.Scan.{within-fits}
 
 -- ---- above 2 ^ k there is nothing up to 2 ^ k * (1 + 2 ^ -23)
 

@@ -1,11 +1,11 @@
--- `floats::inner::scan::first_unfit` meets its contract. Assumes nothing.
+-- `scan::inner::scan::first_unfit` meets its contract. Assumes nothing.
 use Rattle.sequences.proofs.Basics.{_≡_, sym, ap, subst, _∙_, ℕ, _≤_, _-_, zero-add, arith, not, ⊎-elim, length, not-true, not-false, needs}
-use Rattle.floats.specs.Scan.{within, bound, Passed}
+use Rattle.scan.specs.Scan.{within, bound, Passed}
 use Rattle.sequences.proofs.First.{first-here, first-none}
-use Rattle.floats.proofs.Scan.{first-pass, first-unfit, power-below}
-use Rattle.floats.proofs.Squares.{squares-tell}
+use Rattle.scan.proofs.Scan.{first-pass, first-unfit, power-below}
+use Rattle.scan.proofs.Squares.{squares-tell}
 use lib.Ieee.{Float, nan}
-use Rattle.floats.proofs.inner.scan.first_unfit as fn
+use Rattle.scan.proofs.inner.scan.first_unfit as fn
 
 abbrev Inv-loop : fn.Tie.InvT-loop
 Inv-loop xs b i₀ i = (i ≤ length xs) × ((k : ℕ) → b ≡ bound k → Passed b xs i)

@@ -3,7 +3,7 @@ ghost use mathlib.Core.Path.{_≡_};
 ghost use mathlib.Core.Bool.{true};
 ghost use Prim.Native.Nat.{ℕ, _+_, _≤_};
 ghost use lib.ListN.{length};
-ghost use Rattle.floats.specs.Scan.{firstUnfit, bound, Passed, SquaresTell, AllWithin, within as Scan·within};
+ghost use Rattle.scan.specs.Scan.{firstUnfit, bound, Passed, SquaresTell, AllWithin, within as Scan·within};
 
 // 2^48: numbers of bins, and those that a stage is given, are at most this.
 pub const CEILING: f32 = 281474976710656.0;
