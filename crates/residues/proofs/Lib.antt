@@ -1,5 +1,5 @@
 -- The laws that the proofs share, by subject.
 pub mod Iteration
 pub mod Arms
-pub mod Columns
+pub mod Stage
 pub mod Runs

@@ -41,9 +41,9 @@ outputOf m step M s r src turns = output plain (lentBy m step turns) 1 M s r (ce
 abbrev pub Spread : (T : ℕ → Type 0) → (to s : ℕ) → (ℕ → ℕ) → (ys ys′ : List ℕ) → Type 0
 Spread T to s g ys ys′ = Wrote T (λ p. to + p * s) g (cells ys) (cells ys′)
 
--- the outputs v i p are in their cells: of the columns up to k, and of column k those of the first n blocks
-abbrev pub Walked : (M s r : ℕ) → (ℕ → ℕ → ℕ) → List ℕ → (k n : ℕ) → Type 0
-Walked M s r v ys k n = Done s r v (cells ys) (λ i p. (i < M) × ((i % s ≤ k) × (i % s ≡ k → i / s < n)))
+-- the outputs v i p of the iterations below n are in their cells
+abbrev pub Made : (s r : ℕ) → (ℕ → ℕ → ℕ) → List ℕ → (n : ℕ) → Type 0
+Made s r v ys n = Done s r v (cells ys) (λ i p. i < n)
 
 -- what reading the cells of iteration i of M asks for
 pub record Reading (m v M i r : ℕ) (src : List ℕ) : Type 0 where

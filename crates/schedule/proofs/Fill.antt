@@ -97,14 +97,21 @@ module _ {A : Type 0} (s r : ℕ) (v : ℕ → ℕ → A) (ps : 0 < s) {D E : �
       pick i′ p′ e lp (yes a) = inl (p′, (lp, (a, refl)))
       pick i′ p′ e lp (no f) = inr (λ t l a b. f a, new i′ p′ e f)
 
+-- ---- where iterations stand that follow i: in its block, or at the start of the next
+
+module _ (s i n : ℕ) where
+  pub same-block : i % s + n < s → ((i + n) / s ≡ i / s) × ((i + n) % s ≡ i % s + n)
+  same-block l = let e : i + n ≡ i / s * s + (i % s + n) = omega (arith, div-add-mod' i s) in rw e (digits-div (i / s) l, digits-mod (i / s) l)
+
+  pub next-block : 0 < s → i % s + n ≡ s → ((i + n) / s ≡ i / s + 1) × ((i + n) % s ≡ 0)
+  next-block ps l = let e : i + n ≡ (i / s + 1) * s + 0 = omega (arith, div-add-mod' i s) in rw e (digits-div (i / s + 1) ps, digits-mod (i / s + 1) ps)
+
 -- ---- consecutive iterations of one block, one output after the other
 
 -- their cells are consecutive
 pub index-run : (s r i p t : ℕ) → i % s + t < s → index s r (i + t) p ≡ index s r i p + t
 unfolding index
-index-run s r i p t l =
-    let e : i + t ≡ i / s * s + (i % s + t) = omega (arith, div-add-mod' i s) in
-    rw (e, digits-div (i / s) l, digits-mod (i / s) l) (omega arith)
+index-run s r i p t l = let b = same-block s i t l in rw (b .0, b .1) (omega arith)
 
 -- the iterations below i are done, and of the n from i on the outputs below p
 abbrev pub Rowed : {A : Type 0} → (s r : ℕ) → (ℕ → ℕ → A) → (ℕ → A) → (i n p : ℕ) → Type 0

@@ -2,7 +2,7 @@
 pub use mathlib.Core.Path.{_∙_, _≡_, ap, ap₂, refl, subst, subst₂, sym}
 pub use Prim.Native.Nat.{Ordering, Ordering·eq, Ordering·gt, Ordering·lt, _%_, _*_, _+_, _-_, _/_, _<_, _^_, _∣_, _≤_, compare, min, suc, suc-le-suc, zero}
 pub use Prim.Native.Nat.{zero-le, ℕ}
-pub use native.Mathlib.Nat.{add-assoc, add-comm, add-div-right, add-le-add, add-mod, add-mod-right, add-mul, add-mul-mod-self-right, add-sub-of-le, add-suc}
+pub use native.Mathlib.Nat.{add-assoc, add-comm, add-le-add, add-mod, add-mul, add-mul-mod-self-right, add-sub-of-le, add-suc}
 pub use native.Mathlib.Nat.{add-zero, div-add-mod', div-div-eq-div-mul, div-eq-of-eq-mul-left, div-eq-of-lt, div-eq-of-lt-le, div-le-self, div-lt-iff-lt-mul}
 pub use native.Mathlib.Nat.{div-mul-le-self, div-one, div-self, dvd-mul-left, dvd-mul-right, dvd-of-mod-eq-zero, dvd-trans, eq-of-mul-eq-mul-right}
 pub use native.Mathlib.Nat.{eq-or-lt-of-le, le-add-left, le-add-right, le-antisymm, le-dest, le-div-iff-mul-le, le-mul-of-pos-right, le-of-dvd, le-of-eq}

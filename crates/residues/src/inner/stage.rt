@@ -2,11 +2,12 @@
 use counts::inner::stages::stride;
 use plan::Record;
 use powers::inner::power::power;
+use powers::inner::power::powers;
 ghost use mathlib.Core.Path.{_≡_};
-ghost use Prim.Native.Nat.{ℕ, _+_, _*_, _%_, _^_, _≤_, _<_};
+ghost use Prim.Native.Nat.{ℕ, _+_, _*_, _≤_, _<_};
 ghost use lib.ListN.{length, getD};
 ghost use Rattle.schedule.specs.Parts.{Every};
-ghost use Rattle.residues.specs.Parts.{Modulus, kernelOf, readOf, outputOf, Spread, Walked, Reading, Writing, Staged, Workable};
+ghost use Rattle.residues.specs.Parts.{Modulus, kernelOf, readOf, outputOf, Spread, Made, Reading, Writing, Staged, Workable};
 ghost use Rattle.residues.specs.Residues.{cells, stageOf, Under};
 
 // What iteration i reads: for q below the radix cell i + q * apart, times v to the power q.
@@ -107,33 +108,8 @@ fn one(
     }
 }
 
-// Column k: its iterations in all blocks, s apart, whose twiddles are the powers of v.
-fn column(
-    src: &[u32],
-    dst: &mut [u32],
-    k: usize,
-    s: usize,
-    apart: usize,
-    v: u64,
-    turns: [u64; 8],
-    r: usize,
-    m: u64,
-)
-    requires { ⌜ Staged m apart s r turns (now src) (length (now dst)) × (k < s) × (v < m) ⌝ }
-    ensures { λ _. ⌜ ((step : ℕ) → v ≡ step ^ k % m → Walked apart s r (outputOf m step apart s r (now (src .entry)) turns) (now (dst .entry)) k 0 → Walked apart s r (outputOf m step apart s r (now (src .entry)) turns) (now (dst .exit)) (k + 1) 0) ⌝ }
-{
-    let width = s * r;
-    let mut i = k;
-    let mut to = k;
-    while i < apart {
-        one(src, dst, i, to, s, apart, v, turns, r, m);
-        i += s;
-        to += width;
-    }
-}
-
-// All columns, the power of each stepped along from the last.
-fn columns(
+// All iterations in turn: the column, its power and the block's start are stepped along, and the power starts anew with each block.
+fn iterations(
     src: &[u32],
     dst: &mut [u32],
     s: usize,
@@ -144,29 +120,25 @@ fn columns(
     m: u64,
 )
     requires { ⌜ Staged m apart s r turns (now src) (length (now dst)) × (step < m) ⌝ }
-    ensures { λ _. ⌜ Walked apart s r (outputOf m step apart s r (now (src .entry)) turns) (now (dst .exit)) s 0 ⌝ }
+    ensures { λ _. ⌜ Made s r (outputOf m step apart s r (now (src .entry)) turns) (now (dst .exit)) apart ⌝ }
 {
-    let mut v: u64 = 1;
+    let width = s * r;
+    let mut block: usize = 0;
     let mut k: usize = 0;
-    while k < s {
-        column(src, dst, k, s, apart, v, turns, r, m);
-        v = v * step % m;
+    let mut v: u64 = 1;
+    let mut i: usize = 0;
+    while i < apart {
+        one(src, dst, i, block + k, s, apart, v, turns, r, m);
+        i += 1;
         k += 1;
+        if k == s {
+            block += width;
+            k = 0;
+            v = 1;
+        } else {
+            v = v * step % m;
+        }
     }
-}
-
-// The powers of w from 0 to 7.
-fn powers(w: u64, m: u64) -> [u64; 8]
-    requires { ⌜ Modulus m × (w < m) ⌝ }
-    ensures { λ r. ⌜ ((t : ℕ) → t < 8 → getD r t 0 ≡ w ^ t % m) ⌝ }
-{
-    let mut all = [1u64; 8];
-    let mut t: usize = 1;
-    while t < 8 {
-        all[t] = all[t - 1] * w % m;
-        t += 1;
-    }
-    all
 }
 
 // Stage j of an accepted plan, from src into dst.
@@ -180,5 +152,5 @@ pub fn work(plan: Record, j: usize, m: u64, w: u64, src: &[u32], dst: &mut [u32]
     let step = power(w, (apart / s) as u64, m);
     let root = power(w, apart as u64, m);
     let turns = powers(root, m);
-    columns(src, dst, s, apart, step, turns, r, m);
+    iterations(src, dst, s, apart, step, turns, r, m);
 }
