@@ -28,7 +28,8 @@ use Rattle.kernel.specs.Floats.{floats, houseFloats}
 use Rattle.stage.specs.Runs.{turning}
 use Rattle.stage.proofs.Same.{run-housed}
 use Rattle.stage.proofs.Theorems.{filled-run}
-use Rattle.ends.specs.Ends.{endCell, endLent, ended, ifftSteps, preprocess-ifft, conjugated, zeros}
+use Rattle.mixing.specs.Steps.{ifftSteps}
+use Rattle.ends.specs.Ends.{endCell, endLent, ended, preprocess-ifft, conjugated, zeros}
 use Rattle.ends.proofs.Cells.{cell-tabulated, length-ended, length-conjugated}
 use Rattle.spectrum.specs.Calls.{Inverts}
 use Rattle.transform.specs.Parts.{Invertible}

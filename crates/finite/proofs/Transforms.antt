@@ -22,7 +22,8 @@ use Rattle.floats.specs.Complexes.{cell}
 use Rattle.packing.proofs.Places.{place-lt}
 use Rattle.stage.specs.Runs.{stageIn, runOf, lentTo}
 use Rattle.stage.proofs.Runs.{own-within}
-use Rattle.ends.specs.Ends.{endCell, endLent, ended, fftSteps, ifftSteps, preprocess-ifft, conjugated, zeros}
+use Rattle.mixing.specs.Steps.{fftSteps, ifftSteps}
+use Rattle.ends.specs.Ends.{endCell, endLent, ended, preprocess-ifft, conjugated, zeros}
 use Rattle.ends.proofs.Cells.{length-ended, length-conjugated}
 use Rattle.transform.specs.Parts.{Forwardable, Invertible}
 use Rattle.transform.specs.Transforms.{dataOf, padOf, forwardRun, forwardOf, preparedOf, inverseRun, restored, inverseOf}

@@ -15,7 +15,8 @@ use Rattle.plan.proofs.Bounds.{plan-half, plan-twice}
 use Rattle.counts.proofs.Counts.{pairs-lent}
 use Rattle.schedule.specs.Buffers.{Two, heldIn}
 use Rattle.stage.specs.Runs.{runOf}
-use Rattle.ends.specs.Ends.{ifftSteps, postprocess-fft, preprocess-ifft, conjugated, zeros}
+use Rattle.mixing.specs.Steps.{ifftSteps}
+use Rattle.ends.specs.Ends.{postprocess-fft, preprocess-ifft, conjugated, zeros}
 use Rattle.ends.specs.Parts.{prepared, Endable}
 use Rattle.ends.proofs.Cells.{length-ended, length-conjugated}
 use Rattle.ends.proofs.Prepared.{prepared-is}

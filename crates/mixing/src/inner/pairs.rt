@@ -2,7 +2,7 @@
 use floats::complex::Complex;
 ghost use mathlib.Core.Path.{_≡_};
 ghost use Rattle.floats.specs.Complexes.{conjugate};
-ghost use Rattle.ends.specs.Ends.{mixed, fftNear, fftFar, ifftNear, ifftFar};
+ghost use Rattle.mixing.specs.Steps.{mixed, fftNear, fftFar, ifftNear, ifftFar};
 
 // The sum and the difference of a pair, mixed by its twiddle.
 fn mix(s: Complex, d: Complex, t: Complex) -> Complex

@@ -1,6 +1,6 @@
--- `ends::inner::pairs::fft_far` meets its contract. Assumes nothing.
+-- `mixing::inner::pairs::fft_far` meets its contract. Assumes nothing.
 use Rattle.sequences.proofs.Basics.{needs}
-use Rattle.ends.proofs.inner.pairs.fft_far as fn
+use Rattle.mixing.proofs.inner.pairs.fft_far as fn
 
 pub fft-far-spec : {M : Type 1} → fn.Statement.statement M
 fft-far-spec = fn.Tie.close (fn.Tie.spec (λ c κs. search needs) (λ c κs. search needs) (λ c κs. search needs)

@@ -1,6 +1,6 @@
--- `ends::inner::steps::first` meets its contract. Assumes nothing.
+-- `mixing::inner::steps::first` meets its contract. Assumes nothing.
 use Rattle.sequences.proofs.Basics.{needs}
-use Rattle.ends.proofs.inner.steps.first as fn
+use Rattle.mixing.proofs.inner.steps.first as fn
 
 pub first-spec : {M : Type 1} → fn.Statement.statement M
 first-spec = fn.Tie.close (fn.Tie.spec (λ c. rw (c .before .if1 .taken)) (λ c κs. search needs) (λ c κs. search needs) (λ c. let c2 = c .before .before in

@@ -5,7 +5,7 @@ use crate::inner::pairs::ifft_far;
 use crate::inner::pairs::ifft_near;
 use floats::complex::Complex;
 ghost use mathlib.Core.Path.{_≡_};
-ghost use Rattle.ends.specs.Parts.{stepsOf};
+ghost use Rattle.mixing.specs.Parts.{stepsOf};
 
 // Cell 0, from cells 0 and h.
 pub fn first(x: Complex, y: Complex, forward: bool) -> Complex
