@@ -1,13 +1,14 @@
--- `lanes::inner::lanes::rows` meets its contract. Assumes nothing.
+-- `storing::inner::storing::rows` meets its contract. Assumes nothing.
 use Rattle.sequences.proofs.Basics.{_≡_, refl, ap, _∙_, ℕ, _+_, _-_, _*_, _≤_, _<_, arith, length, needs}
 use Rattle.schedule.specs.Stage.{index}
 use Rattle.schedule.proofs.Fill.{wrote-as, Rowed, rowed-none, rowed-step}
 use Rattle.floats.specs.Complexes.{cell}
 use Rattle.floats.specs.declared.complex.Complex.{Complex}
-use Rattle.lanes.specs.Parts.{lane, Done}
-use Rattle.lanes.proofs.Writes.{wrote-from}
-use Rattle.lanes.proofs.Places.{row-room}
-use Rattle.lanes.proofs.inner.lanes.rows as fn
+use Rattle.lanes.specs.Parts.{lane}
+use Rattle.storing.specs.Parts.{Done}
+use Rattle.storing.proofs.Writes.{wrote-from}
+use Rattle.storing.proofs.Places.{row-room}
+use Rattle.storing.proofs.inner.storing.rows as fn
 
 abbrev Inv-loop : fn.Tie.InvT-loop
 Inv-loop re im j dst₀ at i n s r p₀ dst p = (p ≤ r) × (length dst ≡ length dst₀)

@@ -1,8 +1,9 @@
--- `lanes::inner::lanes::row` meets its contract. Assumes nothing.
+-- `storing::inner::storing::row` meets its contract. Assumes nothing.
 use Rattle.sequences.proofs.Basics.{_≡_, refl, _+_, _-_, _*_, _≤_, _<_, arith, length, needs}
-use Rattle.lanes.specs.Parts.{lane, Wrote}
-use Rattle.lanes.proofs.Writes.{wrote-none, wrote-step, wrote-all}
-use Rattle.lanes.proofs.inner.lanes.row as fn
+use Rattle.lanes.specs.Parts.{lane}
+use Rattle.storing.specs.Parts.{Wrote}
+use Rattle.storing.proofs.Writes.{wrote-none, wrote-step, wrote-all}
+use Rattle.storing.proofs.inner.storing.row as fn
 
 abbrev Inv-loop : fn.Tie.InvT-loop
 Inv-loop re im k dst₀ at n t₀ dst t = (t ≤ n) × Wrote (λ u. lane re im (k + u)) at t dst₀ dst

@@ -3,8 +3,9 @@ use Rattle.sequences.proofs.Basics.{_≡_, refl, sym, ap, ap₂, _∙_, ℕ, _+
 use Rattle.sequences.proofs.Basics.{mul-le-mul-right, arith, ℕ-discrete, List, length, digits-div, digits-mod}
 use lib.Ieee.{Float}
 use Rattle.floats.specs.declared.complex.Complex.{Complex}
-use Rattle.lanes.specs.Parts.{Done, lane, Held, InBlock, Blocks, Stored, Batch, Even, Evenly, Placed, Pairs, Paired, Waiting}
-use Rattle.lanes.proofs.Places.{block-room, held-from}
+use Rattle.lanes.specs.Parts.{lane, Held, Pairs, Paired}
+use Rattle.storing.specs.Parts.{Done, InBlock, Blocks, Stored, Batch, Even, Evenly, Placed, Waiting}
+use Rattle.storing.proofs.Places.{block-room, held-from}
 
 -- so many are there
 pub even-le : (e n : ℕ) → Batch e → Even e n → 0 < e → 0 < n → e ≤ n

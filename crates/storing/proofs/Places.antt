@@ -1,9 +1,10 @@
--- The outputs of a later stage reach the lanes and, a row of a block at a time, their cells. Assumes nothing.
-use Rattle.sequences.proofs.Basics.{_≡_, ap, _∙_, ℕ, suc, _+_, _-_, _*_, _/_, _%_, _≤_, _<_, add-assoc, div-lt-iff-lt-mul, mul-le-mul-right, suc-mul, mul-comm}
-use Rattle.sequences.proofs.Basics.{arith, ℕ-discrete, decLe, List, length}
+-- The outputs of a later stage reach their cells, a row of a block at a time. Assumes nothing.
+use Rattle.sequences.proofs.Basics.{_≡_, ap, _∙_, ℕ, suc, _+_, _*_, _/_, _%_, _≤_, _<_, add-assoc, div-lt-iff-lt-mul, mul-le-mul-right, suc-mul, mul-comm}
+use Rattle.sequences.proofs.Basics.{arith, decLe, List, length}
 use lib.Ieee.{Float}
 use Rattle.floats.specs.declared.complex.Complex.{Complex}
-use Rattle.lanes.specs.Parts.{lane, Held, Saved, Paired, InBlock, Blocks}
+use Rattle.lanes.specs.Parts.{lane, Held, Paired}
+use Rattle.storing.specs.Parts.{InBlock, Blocks}
 
 -- row p of a block has room
 pub row-room : (i n s r nd p : ℕ) → InBlock i n s r nd → p < r → 2 * (i / s * (s * r) + i % s + p * s + n) ≤ nd
@@ -23,15 +24,6 @@ block-room i M s r nd b l =
 pub held-from : (i len r : ℕ) (v : ℕ → ℕ → Complex) (re im : List Float) (j n : ℕ) → j + n ≤ len → Held i len r v re im
     → (t p : ℕ) → t < n → p < r → lane re im (16 * p + j + t) ≡ v (i + j + t) p
 held-from i len r v re im j n l held t p lt lp = rw (add-assoc (16 * p) j t, add-assoc i j t) (held (j + t) p (omega arith) lp)
-
--- one more lane
-pub held-step : (i j r : ℕ) (v : ℕ → ℕ → Complex) (re im re′ im′ : List Float) → j < 16 → Saved (v (i + j)) j r re im re′ im′ → Held i j r v re im
-    → Held i (j + 1) r v re′ im′
-held-step i j r v re im re′ im′ lj w before j′ p lj′ lp = pick (ℕ-discrete j′ j)
-  where
-    pick : Dec (j′ ≡ j) → lane re′ im′ (16 * p + j′) ≡ v (i + j′) p
-    pick (yes e) = rw e (w .cells .inside p lp)
-    pick (no f) = w .cells .outside (16 * p + j′) (λ q lq e. f (omega arith)) ∙ before j′ p (omega (arith, f)) lp
 
 -- lanes of two pairs, picked by the radix
 pub picked : (i n r : ℕ) (v : ℕ → ℕ → Complex) (ra ia rb ib p q : List Float) → (r < 7 → p ≡ ra) × (7 ≤ r → p ≡ rb) → (r < 7 → q ≡ ia) × (7 ≤ r → q ≡ ib)

@@ -1,7 +1,7 @@
--- `lanes::inner::lanes::batch` meets its contract. Assumes nothing.
+-- `storing::inner::storing::batch` meets its contract. Assumes nothing.
 use Rattle.sequences.proofs.Basics.{needs}
-use Rattle.lanes.proofs.Batches.{even-le, even-self}
-use Rattle.lanes.proofs.inner.lanes.batch as fn
+use Rattle.storing.proofs.Batches.{even-le, even-self}
+use Rattle.storing.proofs.inner.storing.batch as fn
 
 returns : fn.Tie.Need-returns
 returns c =

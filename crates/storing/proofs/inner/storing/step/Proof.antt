@@ -1,8 +1,8 @@
--- `lanes::inner::lanes::step` meets its contract. Assumes nothing.
+-- `storing::inner::storing::step` meets its contract. Assumes nothing.
 use Rattle.sequences.proofs.Basics.{_+_, _*_, _^_, _<_, arith, needs}
-use Rattle.lanes.proofs.Places.{picked, picked-size}
-use Rattle.lanes.proofs.Batches.{waiting-asks, waiting-room, waiting-within, waiting-rows, waiting-next, waiting-done}
-use Rattle.lanes.proofs.inner.lanes.step as fn
+use Rattle.storing.proofs.Places.{picked, picked-size}
+use Rattle.storing.proofs.Batches.{waiting-asks, waiting-room, waiting-within, waiting-rows, waiting-next, waiting-done}
+use Rattle.storing.proofs.inner.storing.step as fn
 
 -- the end of the block is no large number
 small : (c : fn.Tie.After-slice-known) → let a = c .before .before .before .before .before .args in a .at .block + a .s * a .r < 2 ^ 64

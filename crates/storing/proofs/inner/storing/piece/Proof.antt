@@ -1,7 +1,7 @@
--- `lanes::inner::lanes::piece` meets its contract. Assumes nothing.
+-- `storing::inner::storing::piece` meets its contract. Assumes nothing.
 use Rattle.sequences.proofs.Basics.{_≡_, arith, needs}
-use Rattle.lanes.proofs.Writes.{wrote-all}
-use Rattle.lanes.proofs.inner.lanes.piece as fn
+use Rattle.storing.proofs.Writes.{wrote-all}
+use Rattle.storing.proofs.inner.storing.piece as fn
 
 returns-3 : fn.Tie.Need-returns-3
 returns-3 c =
