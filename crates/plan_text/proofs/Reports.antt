@@ -2,7 +2,7 @@
 use Rattle.sequences.proofs.Basics.{_≡_, refl, sym, ap, _∙_, ℕ, _-_, _≤_, arith, List, [], length, take, replicate, length-append, take-append-seam}
 use Rattle.radices.specs.Lists.{isRadix, product, firstBad, firstOver, indexOf, countOf, padded}
 use Rattle.sequences.specs.Lists.{firstThat}
-use Rattle.merging.specs.Half.{halving, halved, half}
+use Rattle.halving.specs.Half.{halving, halved, half}
 use Rattle.merging.specs.Merging.{tally, applies, merge, firstRule, rulesUpTo, rules, mergedBy, merged, letters, sorted, marked}
 use Rattle.plan.specs.Record.{planVerdict, factors, recordOf, refusedPlan, acceptedPlan, planned}
 use Rattle.counts.specs.Counts.{radix, twiddleCount, twiddleStart, endCount, resultIn}

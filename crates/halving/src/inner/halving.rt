@@ -5,8 +5,8 @@ use radices::inner::lists::index_of;
 ghost use mathlib.Core.Path.{_≡_};
 ghost use Prim.Native.Nat.{_<_, _≤_};
 ghost use lib.ListN.{length};
-ghost use Rattle.merging.specs.Half.{half, halved, halving};
-ghost use Rattle.merging.specs.declared.inner.halving.Halving.the-variants.{Goes, Becomes};
+ghost use Rattle.halving.specs.Half.{half, halved, halving};
+ghost use Rattle.halving.specs.declared.inner.halving.Halving.the-variants.{Goes, Becomes};
 ghost use Rattle.radices.specs.Lists.{listed};
 
 // What halving does to a list: an entry goes, or becomes another radix.

@@ -1,7 +1,7 @@
--- `merging::inner::halving::which` meets its contract. Assumes nothing.
+-- `halving::inner::halving::which` meets its contract. Assumes nothing.
 use Rattle.sequences.proofs.Basics.{lt-ltb, le-ltb, needs}
-use Rattle.merging.specs.Half.{halving}
-use Rattle.merging.proofs.inner.halving.which as fn
+use Rattle.halving.specs.Half.{halving}
+use Rattle.halving.proofs.inner.halving.which as fn
 
 returns : fn.Tie.Need-returns
 unfolding halving

@@ -1,10 +1,10 @@
--- `merging::inner::halving::without` meets its contract. Assumes nothing.
+-- `halving::inner::halving::without` meets its contract. Assumes nothing.
 use Rattle.sequences.proofs.Basics.{_≡_, refl, sym, ap, _∙_, _+_, _<_, arith, _++_, length, take, drop, length-drop, length-take-le, paste, needs}
 use Rattle.radices.specs.Lists.{padded, listed}
 use Rattle.sequences.proofs.Pasted.{take-rest}
 use Rattle.radices.proofs.Lists.{listed-is, paste-empty, paste-padded}
-use Rattle.merging.proofs.Half.{length-without, halved-goes}
-use Rattle.merging.proofs.inner.halving.without as fn
+use Rattle.halving.proofs.Half.{length-without, halved-goes}
+use Rattle.halving.proofs.inner.halving.without as fn
 
 returns : fn.Tie.Need-returns
 returns c =

@@ -1,9 +1,9 @@
--- `merging::inner::halving::half_list` meets its contract. Assumes nothing.
+-- `halving::inner::halving::half_list` meets its contract. Assumes nothing.
 use Rattle.sequences.proofs.Basics.{refl, sym, ap, _∙_, needs}
 use Rattle.radices.specs.Lists.{listed}
 use Rattle.radices.proofs.Lists.{listed-is, paste-empty}
-use Rattle.merging.proofs.Half.{goes-within, becomes-within, half-by, half-stays}
-use Rattle.merging.proofs.inner.halving.half_list as fn
+use Rattle.halving.proofs.Half.{goes-within, becomes-within, half-by, half-stays}
+use Rattle.halving.proofs.inner.halving.half_list as fn
 
 returns-3 : fn.Tie.Need-returns-3
 returns-3 c =

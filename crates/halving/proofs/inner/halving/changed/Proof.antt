@@ -1,9 +1,9 @@
--- `merging::inner::halving::changed` meets its contract. Assumes nothing.
+-- `halving::inner::halving::changed` meets its contract. Assumes nothing.
 use Rattle.sequences.proofs.Basics.{sym, ap, _∙_, ℕ, List, set, length-set, needs}
 use Rattle.radices.specs.Lists.{listed}
-use Rattle.merging.proofs.Half.{halved-becomes}
+use Rattle.halving.proofs.Half.{halved-becomes}
 use Rattle.radices.proofs.Lists.{listed-is, paste-empty, set-padded}
-use Rattle.merging.proofs.inner.halving.changed as fn
+use Rattle.halving.proofs.inner.halving.changed as fn
 
 returns : fn.Tie.Need-returns
 returns c =

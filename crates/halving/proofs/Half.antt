@@ -6,9 +6,9 @@ use Rattle.radices.specs.Lists.{isRadix, product, indexOf}
 use Rattle.sequences.specs.Lists.{firstThat}
 use Rattle.radices.proofs.Lists.{product-append}
 use Rattle.radices.proofs.Products.{Radix, radix-is, Radical, radical-append, radical-parts}
-use Rattle.merging.specs.Half.{has, halving, halved, half}
-use Rattle.merging.specs.declared.inner.halving.Halving.{Halving}
-use Rattle.merging.specs.declared.inner.halving.Halving.the-variants.{Goes, Becomes, Stays}
+use Rattle.halving.specs.Half.{has, halving, halved, half}
+use Rattle.halving.specs.declared.inner.halving.Halving.{Halving}
+use Rattle.halving.specs.declared.inner.halving.Halving.the-variants.{Goes, Becomes, Stays}
 
 -- what stands at the first v
 index-at : (v : ℕ) (xs : List ℕ) → indexOf v xs < length xs → getD xs (indexOf v xs) 0 ≡ v

@@ -5,8 +5,8 @@ use mathlib.Core.List.{List, _++_}
 use lib.Dec.{ltb}
 use lib.ListN.{length, take, drop, set}
 use Rattle.radices.specs.Lists.{indexOf}
-use Rattle.merging.specs.declared.inner.halving.Halving.{Halving}
-use Rattle.merging.specs.declared.inner.halving.Halving.the-variants.{Goes, Becomes, Stays}
+use Rattle.halving.specs.declared.inner.halving.Halving.{Halving}
+use Rattle.halving.specs.declared.inner.halving.Halving.the-variants.{Goes, Becomes, Stays}
 
 -- the list has a v
 abbrev pub has : ℕ → List ℕ → Bool
