@@ -1,7 +1,7 @@
--- `turn::inner::table::cosines` meets its contract. Assumes nothing.
+-- `house::inner::table::cosines` meets its contract. Assumes nothing.
 use Rattle.sequences.proofs.Basics.{refl}
-use Rattle.turn.specs.House.{cosines}
-use Rattle.turn.proofs.inner.table.cosines as fn
+use Rattle.house.specs.House.{cosines}
+use Rattle.house.proofs.inner.table.cosines as fn
 
 returns : fn.Tie.Need-returns
 unfolding cosines

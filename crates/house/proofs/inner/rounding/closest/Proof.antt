@@ -1,7 +1,7 @@
--- `turn::inner::rounding::closest` meets its contract. Assumes nothing.
+-- `house::inner::rounding::closest` meets its contract. Assumes nothing.
 use Rattle.sequences.proofs.Basics.{_∙_, _/_, Ordering·lt, Ordering·eq, Ordering·gt, mod-lt, div-le-self, add-one, arith, needs}
-use Rattle.turn.proofs.Closest.{closest-by}
-use Rattle.turn.proofs.inner.rounding.closest as fn
+use Rattle.house.proofs.Closest.{closest-by}
+use Rattle.house.proofs.inner.rounding.closest as fn
 
 pub closest-spec : {M : Type 1} → fn.Statement.statement M
 closest-spec = fn.Tie.close

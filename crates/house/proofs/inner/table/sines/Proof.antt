@@ -1,7 +1,7 @@
--- `turn::inner::table::sines` meets its contract. Assumes nothing.
+-- `house::inner::table::sines` meets its contract. Assumes nothing.
 use Rattle.sequences.proofs.Basics.{refl}
-use Rattle.turn.specs.House.{sines}
-use Rattle.turn.proofs.inner.table.sines as fn
+use Rattle.house.specs.House.{sines}
+use Rattle.house.proofs.inner.table.sines as fn
 
 returns : fn.Tie.Need-returns
 unfolding sines

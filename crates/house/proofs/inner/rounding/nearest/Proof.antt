@@ -1,8 +1,8 @@
--- `turn::inner::rounding::nearest` meets its contract. Assumes nothing.
+-- `house::inner::rounding::nearest` meets its contract. Assumes nothing.
 use Rattle.sequences.proofs.Basics.{_≡_, sym, ap, _∙_, subst, ℕ, _^_, _<_, _≤_, le-trans, arith, lit≤, pow-pos, pow-mono, needs}
 use lib.Ieee.Nearest.{closest}
-use Rattle.turn.proofs.Nearest.{few-beyond, shifted, nearest-is, in-float, no-nan}
-use Rattle.turn.proofs.inner.rounding.nearest as fn
+use Rattle.house.proofs.Nearest.{few-beyond, shifted, nearest-is, in-float, no-nan}
+use Rattle.house.proofs.inner.rounding.nearest as fn
 
 -- at most 37 digits are beyond
 few : (c : fn.Tie.After-beyond) → c .beyond .result ≤ 37

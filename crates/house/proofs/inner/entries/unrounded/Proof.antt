@@ -1,7 +1,7 @@
--- `turn::inner::lookup::unrounded` meets its contract. Assumes nothing.
+-- `house::inner::entries::unrounded` meets its contract. Assumes nothing.
 use Rattle.sequences.proofs.Basics.{_∙_, arith, needs}
-use Rattle.turn.proofs.Lookup.{entry-plain, entry-exchanged, read-plain, read-exchanged, house-long}
-use Rattle.turn.proofs.inner.lookup.unrounded as fn
+use Rattle.house.proofs.Entries.{entry-plain, entry-exchanged, read-plain, read-exchanged, house-long}
+use Rattle.house.proofs.inner.entries.unrounded as fn
 
 pub unrounded-spec : {M : Type 1} → fn.Statement.statement M
 unrounded-spec = fn.Tie.close

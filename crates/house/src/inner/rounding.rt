@@ -4,7 +4,7 @@ ghost use mathlib.Core.Bool.{false};
 ghost use Prim.Native.Nat.{_^_, _<_, _≤_};
 ghost use lib.Ieee.{binary32, round};
 ghost use lib.Ieee.Nearest.{closest as closestTo};
-ghost use Rattle.turn.specs.Rounding.{Beyond};
+ghost use Rattle.house.specs.Rounding.{Beyond};
 
 // c / u rounded to the nearest whole number, a tie to the even one.
 fn closest(c: u64, u: u64) -> u64

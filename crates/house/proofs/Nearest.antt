@@ -16,8 +16,8 @@ use lib.Ieee.Nearest.{closest, closest-same}
 use lib.Ieee.Scale.{round-same}
 use lib.Ieee.Back.{round-whole}
 use lib.Ieee.Bits.{nanBits-is}
-use Rattle.turn.specs.Rounding.{Beyond}
-use Rattle.turn.proofs.Closest.{closest-exact, closest-one, closest-top, closest-low}
+use Rattle.house.specs.Rounding.{Beyond}
+use Rattle.house.proofs.Closest.{closest-exact, closest-one, closest-top, closest-low}
 
 -- a / 2 ^ 60 as an f32
 abbrev over : ℕ → Float

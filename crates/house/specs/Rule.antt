@@ -2,7 +2,7 @@
 use Prim.Native.Nat.{ℕ, suc, _+_, _*_, _^_, _<_, _≤_}
 use mathlib.Core.Path.{_≡_}
 use lib.ListN.{getD}
-use Rattle.turn.specs.House.{cosines, sines}
+use Rattle.house.specs.House.{cosines, sines}
 
 -- c(b) and s(b), for b up to 840
 abbrev pub cosine : ℕ → ℕ

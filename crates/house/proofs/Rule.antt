@@ -2,9 +2,9 @@
 -- Assumes nothing.
 use Rattle.sequences.proofs.Basics.{_≡_, refl, subst, sym, ℕ, zero, suc, _+_, _*_, _^_, _<_, _≤_, eq-or-lt-of-le, not-suc-le-zero, arith, inl, inr, List, []}
 use Rattle.sequences.proofs.Basics.{_∷_, T, lit≤, length}
-use Rattle.turn.specs.House.{cosines, sines}
-use Rattle.turn.specs.Rule.{cosine, sine, Within, Rule}
-use Rattle.turn.proofs.Table.{Ordered, Neighbours, everywhere, everywhere-at}
+use Rattle.house.specs.House.{cosines, sines}
+use Rattle.house.specs.Rule.{cosine, sine, Within, Rule}
+use Rattle.house.proofs.Table.{Ordered, Neighbours, everywhere, everywhere-at}
 
 -- x and y are within d of each other
 abbrev within : (d x y : ℕ) → List (ℕ × ℕ) → List (ℕ × ℕ)
