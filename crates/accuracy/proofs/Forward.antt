@@ -27,9 +27,10 @@ use Rattle.mixing.specs.Steps.{fftSteps}
 use Rattle.ends.specs.Ends.{endCell, endLent, ended, postprocess-fft}
 use Rattle.ends.proofs.Cells.{cell-tabulated, length-ended}
 use Rattle.spectrum.specs.Calls.{Forwards}
+use Rattle.scratch.specs.Scratch.{padOf}
+use Rattle.scratch.proofs.Scratch.{pad-length}
 use Rattle.transform.specs.Parts.{Forwardable}
-use Rattle.transform.specs.Transforms.{Slices, padOf, forwardRun, forwardOf}
-use Rattle.transform.proofs.Scratch.{pad-length}
+use Rattle.transform.specs.Transforms.{Slices, forwardRun, forwardOf}
 use Rattle.counts.proofs.Counts.{pairs-lent}
 use Rattle.spectrum.proofs.Verdicts.{forwardable}
 use Rattle.accuracy.specs.Gauss.{Gauss, timesG, scaleG, Disc, Off, valC}

@@ -1,6 +1,6 @@
 -- The unrounded entry at an index, and what holds of each entry of the table. Assumes nothing.
-use Rattle.sequences.proofs.Basics.{_≡_, refl, sym, ap, ap₂, _∙_, subst, ℕ, zero, suc, _-_, _/_, _%_, _<_, _≤_, mod-lt, zero-lt-suc}
-use Rattle.sequences.proofs.Basics.{arith, decLe, Bool, true, false, cond, dite, List, ltb, length, getD, lt-ltb, le-ltb}
+use Rattle.sequences.proofs.Basics.{_≡_, refl, sym, ap, ap₂, _∙_, subst, ℕ, zero, suc, _-_, _/_, _%_, _<_, _≤_, mod-lt, zero-lt-suc, arith, decLe, Bool, true}
+use Rattle.sequences.proofs.Basics.{false, cond, dite, List, ltb, length, getD, lt-ltb, le-ltb}
 use Rattle.house.specs.declared.inner.entries.Entry.{Entry}
 use Rattle.house.specs.Entries.{plain, exchanged, mirrored, entryOf, House}
 use Rattle.house.specs.Rule.{cosine, sine}

@@ -1,6 +1,6 @@
 -- What the report takes from planning, and the words of its radices. Assumes nothing.
-use Rattle.sequences.proofs.Basics.{_≡_, refl, sym, ap, _∙_, ℕ, min, _≤_, arith, decLe, true, dite, List, length, take, take-length}
-use Rattle.sequences.proofs.Basics.{take-all, zero, suc, _<_, [], _∷_, map}
+use Rattle.sequences.proofs.Basics.{_≡_, refl, sym, ap, _∙_, ℕ, min, _≤_, arith, decLe, true, dite, List, length, take, take-length, take-all, zero, suc, _<_}
+use Rattle.sequences.proofs.Basics.{[], _∷_, map}
 use Rattle.refusal.specs.Refusal.{verdict}
 use Rattle.refusal.specs.declared.Verdict.{Verdict}
 use Rattle.refusal.specs.declared.Verdict.the-variants.{Accepted, Refused}

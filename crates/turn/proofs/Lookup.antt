@@ -1,6 +1,6 @@
 -- An entry of the table under its quarters and its signs is the turn at its index. Assumes nothing.
-use Rattle.sequences.proofs.Basics.{_≡_, sym, ap, ap₂, _∙_, subst, ℕ, zero, suc, _-_, _/_, _%_, _^_, _<_, not-suc-le-zero}
-use Rattle.sequences.proofs.Basics.{arith, Bool, true, false, cond, eqb, eq-eqb, ne-eqb}
+use Rattle.sequences.proofs.Basics.{_≡_, sym, ap, ap₂, _∙_, subst, ℕ, zero, suc, _-_, _/_, _%_, _^_, _<_, not-suc-le-zero, arith, Bool, true, false, cond, eqb}
+use Rattle.sequences.proofs.Basics.{eq-eqb, ne-eqb}
 use lib.Ieee.{Float, binary32, round, neg}
 use Rattle.house.specs.declared.inner.entries.Entry.{Entry}
 use Rattle.house.specs.Entries.{entryOf}

@@ -1,7 +1,7 @@
--- `transform::inner::stages::conjugate_front` meets its contract. Assumes nothing.
+-- `scratch::inner::restoring::conjugate_front` meets its contract. Assumes nothing.
 use Rattle.sequences.proofs.Basics.{sym, ap, _*_, List, _++_, drop, length-take-le, needs}
 use lib.Ieee.{Float}
-use Rattle.transform.proofs.inner.stages.conjugate_front as fn
+use Rattle.scratch.proofs.inner.restoring.conjugate_front as fn
 
 pub conjugate-front-spec : {M : Type 1} → fn.Statement.statement M
 conjugate-front-spec = fn.Tie.close

@@ -1,8 +1,8 @@
--- `transform::inner::stages::keep_pad` meets its contract. Assumes nothing.
+-- `scratch::inner::restoring::keep_pad` meets its contract. Assumes nothing.
 use Rattle.sequences.proofs.Basics.{sym, _∙_, length-take-le, needs}
-use Rattle.transform.specs.Transforms.{dataOf}
-use Rattle.transform.proofs.Scratch.{pad-pasted, parted}
-use Rattle.transform.proofs.inner.stages.keep_pad as fn
+use Rattle.scratch.specs.Scratch.{dataOf}
+use Rattle.scratch.proofs.Scratch.{pad-pasted, parted}
+use Rattle.scratch.proofs.inner.restoring.keep_pad as fn
 
 returns : fn.Tie.Need-returns
 returns c =

@@ -1,17 +1,16 @@
--- Laws of a scratch: its Data, its Scratchpad and the rest, what replaces them, and what the stages leave. Assumes nothing.
-use Rattle.sequences.proofs.Basics.{_≡_, refl, sym, ap, ap₂, _∙_, ℕ, _+_, _-_, _*_, _≤_, _<_, arith, Bool, true, false, cond, List, _++_, append-assoc, ltb}
-use Rattle.sequences.proofs.Basics.{length, take, drop, length-append, length-drop, take-append-drop, length-take-le, length-front, take-at, drop-at, drop-drop}
-use Rattle.sequences.proofs.Basics.{drop-append-le, take-append-le, ltb-true, ltb-false}
+-- Laws of a scratch: its Data, its Scratchpad and the rest, what replaces them, and the result restored. Assumes nothing.
+use Rattle.sequences.proofs.Basics.{_≡_, refl, sym, ap, ap₂, _∙_, ℕ, _+_, _-_, _*_, _≤_, arith, Bool, true, false, cond, List, _++_, append-assoc, length, take}
+use Rattle.sequences.proofs.Basics.{drop, length-append, length-drop, take-append-drop, length-take-le, length-front, take-at, drop-at, drop-drop}
+use Rattle.sequences.proofs.Basics.{drop-append-le, take-append-le}
 use lib.Ieee.{Float}
 use Rattle.sequences.specs.Lists.{pasted}
+use Rattle.sequences.proofs.Pasted.{front-pasted}
 use Rattle.counts.specs.declared.Buffer.{Buffer}
 use Rattle.counts.specs.declared.Buffer.the-variants.{Data, Scratchpad}
-use Rattle.plan.specs.declared.Record.{Record}
-use Rattle.schedule.specs.Buffers.{Two, driven, heldIn}
-use Rattle.schedule.proofs.Buffers.{driven-none, driven-long, driven-pad}
-use Rattle.stage.specs.Runs.{ownOf, stageIn, runOf}
-use Rattle.stage.proofs.Runs.{length-made}
-use Rattle.transform.specs.Transforms.{dataOf, padOf, withBoth}
+use Rattle.schedule.specs.Buffers.{Two, heldIn}
+use Rattle.ends.specs.Ends.{conjugated}
+use Rattle.ends.proofs.Cells.{length-conjugated}
+use Rattle.scratch.specs.Scratch.{dataOf, padOf, withBoth}
 
 -- the first words replaced by as many, the row is as long as it was
 pub front-room : (h : ℕ) (d s : List Float) → length d ≡ length (take (2 * h) s) → 2 * h ≤ length s → (length (d ++ drop (2 * h) s) ≡ length s)
@@ -107,50 +106,28 @@ pad-pasted h e s le =
 pub parted : (h : ℕ) (s : List Float) → withBoth h (dataOf h s, padOf h s) s ≡ s
 parted h s = sym (data-replaced h (dataOf h s) s) ∙ take-append-drop (2 * h) s
 
--- ---- the stages
+-- ---- the result restored
 
-module _ (p : Record) (W : ℕ) (tw : List Float) where
-  -- both buffers stay as long as they are
-  pub run-long : (b : Two Float) → length (b .0) ≡ 2 * p .half → length (b .1) ≡ 2 * p .half
-      → (length (runOf p W tw b .0) ≡ 2 * p .half) × (length (runOf p W tw b .1) ≡ 2 * p .half)
-  run-long b l m = driven-long (stageIn p W tw) b (2 * p .half) (λ k zs. length-made p k W (ownOf p tw k) zs) l m (p .count)
+-- Data conjugated and copied to the output, with x in the Scratchpad
+pub data-restored : (h : ℕ) (s o x s1 s2 o1 : List Float) → 4 * h ≤ length s → length x ≡ 2 * h → s1 ≡ withBoth h (dataOf h s, x) s
+    → s2 ≡ conjugated h (dataOf h s1) ++ drop (2 * h) s1 → o1 ≡ pasted o 0 (dataOf h s2)
+    → (s2 ≡ withBoth h (conjugated h (dataOf h s), x) s) × (o1 ≡ conjugated h (dataOf h s) ++ drop (2 * h) o)
+data-restored h s o x s1 s2 o1 room lx e1 e2 e3 =
+    let c : List Float = conjugated h (dataOf h s) in let lc : length c ≡ 2 * h = length-conjugated h (dataOf h s) in
+    let b : Two Float = (dataOf h s, x) in let ld = data-length h s room in
+    let d : dataOf h s1 ≡ dataOf h s = ap (dataOf h) e1 ∙ both-data h b s ld lx in
+    let p : padOf h s1 ≡ x = ap (padOf h) e1 ∙ both-pad h b s ld lx in
+    let r : drop (4 * h) s1 ≡ drop (4 * h) s = ap (drop (4 * h)) e1 ∙ both-rest h b s ld lx in
+    let f : s2 ≡ c ++ drop (2 * h) s1 = e2 ∙ ap (λ (u : List Float). conjugated h u ++ drop (2 * h) s1) d in (
+      f ∙ data-replaced h c s1 ∙ ap₂ (λ (u v : List Float). c ++ u ++ v) p r,
+      e3 ∙ ap (pasted o 0) (ap (dataOf h) f ∙ front-data h c s1 lc) ∙ front-pasted o c (2 * h) lc,
+    )
 
-  module _ (xs s o : List Float) (samples : length xs ≡ 2 * p .half) (room : 4 * p .half ≤ length s) (other : 2 * p .half ≤ length o) where
-    -- what the run makes of the numbers xs and of what the other buffer held, and what it makes of them and of the Scratchpad
-    abbrev beside : Two Float
-    beside = runOf p W tw (xs, dataOf (p .half) o)
-
-    abbrev within : Two Float
-    within = runOf p W tw (xs, padOf (p .half) s)
-
-    pub stages-made : 0 < p .count → (d e s′ : List Float) → d ≡ beside .0 → e ≡ beside .1
-        → s′ ≡ pasted (d ++ drop (2 * p .half) s) (2 * p .half) (dataOf (p .half) (e ++ drop (2 * p .half) o)) → s′ ≡ withBoth (p .half) within s
-    stages-made some d e s′ ed ee made =
-        let lens = run-long (xs, dataOf (p .half) o) samples (length-take-le (2 * p .half) o other) in
-        let ld : length d ≡ 2 * p .half = ap length ed ∙ lens .0 in
-        let le : length e ≡ 2 * p .half = ap length ee ∙ lens .1 in
-        made ∙ ap (pasted (d ++ drop (2 * p .half) s) (2 * p .half)) (front-data (p .half) e o le) ∙ both-pasted (p .half) d s ld e le
-        ∙ ap₂ (λ (u v : List Float). withBoth (p .half) (u, v) s) ed ee
-        ∙ ap (λ (b : Two Float). withBoth (p .half) b s) (driven-pad (stageIn p W tw) xs (dataOf (p .half) o) (padOf (p .half) s) (p .count) some)
-
-    -- without a stage nothing is made
-    nothing : p .count ≡ 0 → (b : Two Float) → runOf p W tw b ≡ b
-    nothing none b = ap (λ (n : ℕ). driven (stageIn p W tw) n b) none ∙ driven-none (stageIn p W tw) b
-
-    pub stages-none : p .count ≡ 0 → (d : List Float) → d ≡ beside .0 → d ++ drop (2 * p .half) s ≡ withBoth (p .half) within s
-    stages-none none d ed =
-        let same : d ≡ xs = ed ∙ ap (λ (b : Two Float). b .0) (nothing none (xs, dataOf (p .half) o)) in
-        ap (λ (u : List Float). u ++ drop (2 * p .half) s) same ∙ data-replaced (p .half) xs s
-        ∙ ap (λ (b : Two Float). withBoth (p .half) b s) (sym (nothing none (xs, padOf (p .half) s)))
-
-    -- the other buffer does for the Scratchpad, if a stage ran
-    pub within-beside : (t : Bool) → ltb 0 (p .count) ≡ t → (d e : List Float) → d ≡ beside .0 → e ≡ beside .1
-        → (d ≡ within .0) × (cond t e (padOf (p .half) s) ≡ within .1)
-    within-beside true some d e ed ee =
-        let same = driven-pad (stageIn p W tw) xs (dataOf (p .half) o) (padOf (p .half) s) (p .count) (ltb-true 0 (p .count) some) in
-        (ed ∙ ap (λ (b : Two Float). b .0) same, ee ∙ ap (λ (b : Two Float). b .1) same)
-    within-beside false none d e ed ee =
-        let zero : p .count ≡ 0 = omega (arith, ltb-false 0 (p .count) none) in (
-          ed ∙ ap (λ (b : Two Float). b .0) (nothing zero (xs, dataOf (p .half) o)) ∙ ap (λ (b : Two Float). b .0) (sym (nothing zero (xs, padOf (p .half) s))),
-          ap (λ (b : Two Float). b .1) (sym (nothing zero (xs, padOf (p .half) s))),
-        )
+-- the output conjugated and copied to both buffers
+pub pad-restored : (h : ℕ) (s o o1 s1 s2 : List Float) → o1 ≡ conjugated h (dataOf h o) ++ drop (2 * h) o → s1 ≡ pasted s 0 (dataOf h o1)
+    → s2 ≡ pasted s1 (2 * h) (dataOf h o1) → s2 ≡ withBoth h (conjugated h (dataOf h o), conjugated h (dataOf h o)) s
+pad-restored h s o o1 s1 s2 e1 e2 e3 =
+    let c : List Float = conjugated h (dataOf h o) in let lc : length c ≡ 2 * h = length-conjugated h (dataOf h o) in
+    let g : dataOf h o1 ≡ c = ap (dataOf h) e1 ∙ front-data h c o lc in
+    let f : s1 ≡ c ++ drop (2 * h) s = e2 ∙ ap (pasted s 0) g ∙ front-pasted s c (2 * h) lc in
+    e3 ∙ ap₂ (λ (u v : List Float). pasted u (2 * h) v) f g ∙ both-pasted h c s lc c lc

@@ -1,7 +1,7 @@
--- `transform::inner::stages::from_pad` meets its contract. Assumes nothing.
-use Rattle.transform.proofs.Transforms.{pad-restored}
+-- `scratch::inner::restoring::from_pad` meets its contract. Assumes nothing.
+use Rattle.scratch.proofs.Scratch.{pad-restored}
 use Rattle.sequences.proofs.Basics.{needs}
-use Rattle.transform.proofs.inner.stages.from_pad as fn
+use Rattle.scratch.proofs.inner.restoring.from_pad as fn
 
 returns : fn.Tie.Need-returns
 returns c =

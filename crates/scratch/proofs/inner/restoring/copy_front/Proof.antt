@@ -1,6 +1,6 @@
--- `transform::inner::stages::copy_front` meets its contract. Assumes nothing.
+-- `scratch::inner::restoring::copy_front` meets its contract. Assumes nothing.
 use Rattle.sequences.proofs.Basics.{sym, arith, length-take-le, needs}
-use Rattle.transform.proofs.inner.stages.copy_front as fn
+use Rattle.scratch.proofs.inner.restoring.copy_front as fn
 
 pub copy-front-spec : {M : Type 1} → fn.Statement.statement M
 copy-front-spec = fn.Tie.close

@@ -1,8 +1,7 @@
--- `transform::inner::stages::from_data` meets its contract. Assumes nothing.
+-- `scratch::inner::restoring::from_data` meets its contract. Assumes nothing.
 use Rattle.sequences.proofs.Basics.{length-take-le, needs}
-use Rattle.transform.proofs.Scratch.{pad-length, choice-long}
-use Rattle.transform.proofs.Transforms.{data-restored}
-use Rattle.transform.proofs.inner.stages.from_data as fn
+use Rattle.scratch.proofs.Scratch.{pad-length, choice-long, data-restored}
+use Rattle.scratch.proofs.inner.restoring.from_data as fn
 
 returns : fn.Tie.Need-returns
 returns c =
