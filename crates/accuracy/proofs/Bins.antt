@@ -5,7 +5,8 @@ use lib.Ieee.{Float, binary32, ofBits, add, sub}
 use Rattle.turn.specs.Turns.{+0}
 use Rattle.floats.specs.Complexes.{cx, conjugate}
 use Rattle.floats.specs.declared.complex.Complex.{Complex}
-use Rattle.ends.specs.Ends.{fftNear, fftFar, endCell, fftSteps}
+use Rattle.mixing.specs.Steps.{fftNear, fftFar, fftSteps}
+use Rattle.ends.specs.Ends.{endCell}
 use Rattle.finite.proofs.Ends.{end-cell}
 use Rattle.accuracy.specs.Gauss.{Gauss, plusG, minusG, timesG, scaleG, Disc, Off, valC}
 use Rattle.accuracy.specs.House.{house}

@@ -1,5 +1,5 @@
 -- The steps at the ends in f32, on a pair of cells, against the exact ones. Assumes nothing.
-use Rattle.sequences.proofs.Basics.{_≡_, refl, sym, ap, ap₂, _∙_, subst, ℕ, zero, suc, _+_, _-_, _*_, _^_, _≤_, _<_, le-trans, le-of-eq, mul-le-mul-left}
+use Rattle.sequences.proofs.Basics.{_≡_, refl, sym, ap, ap₂, _∙_, subst, ℕ, zero, suc, _+_, _*_, _^_, _≤_, _<_, le-trans, le-of-eq, mul-le-mul-left}
 use Rattle.sequences.proofs.Basics.{mul-le-mul, le-of-mul-le-mul-right, arith, Bool, true, false, not, cond, lit≤, lit<, ltb, eqb, pow-pos}
 use lib.Ieee.{Float, nan, inf, fin, Format, binary32, units, odd, round, add, sub, mul, neg, unlike, prec, emax, low, up, down, ofBits}
 use lib.Ieee.Fits.{round-is}
@@ -7,7 +7,7 @@ use Rattle.turn.specs.declared.Turn.the-variants.{Quarter}
 use Rattle.floats.specs.Complexes.{cx, plus, minus, conjugate}
 use Rattle.floats.specs.declared.complex.Complex.{Complex}
 use Rattle.floats.proofs.Signs.{neg-neg}
-use Rattle.ends.specs.Ends.{mixed, fftNear, fftFar, ifftNear, ifftFar}
+use Rattle.mixing.specs.Steps.{mixed, fftNear, fftFar, ifftNear, ifftFar}
 use Rattle.accuracy.specs.Gauss.{Gauss, plusG, minusG, timesG, scaleG, Disc, Off, valC}
 use Rattle.accuracy.specs.Value.{Signed, NearZ, negZ, timesZ, scale, absZ, mag, val, Held}
 use Rattle.accuracy.proofs.Circle.{quarter, quarter-disc}

@@ -1,5 +1,5 @@
 -- What an accepted forward call leaves, with the twiddles of an accepted filling, bin by bin against the spectrum. Assumes nothing.
-use Rattle.sequences.proofs.Basics.{_≡_, refl, sym, ap, ap₂, _∙_, subst, ℕ, zero, suc, _+_, _-_, _*_, _/_, _^_, _≤_, _<_, le-refl, le-trans, mul-le-mul-right}
+use Rattle.sequences.proofs.Basics.{_≡_, refl, sym, ap, ap₂, _∙_, subst, ℕ, zero, suc, _+_, _*_, _/_, _^_, _≤_, _<_, le-refl, le-trans, mul-le-mul-right}
 use Rattle.sequences.proofs.Basics.{arith, List, length, getD}
 use lib.Ieee.{Float, nan, binary32, mul, ofBits}
 use Rattle.refusal.specs.declared.Verdict.{Verdict}
@@ -23,12 +23,14 @@ use Rattle.kernel.specs.Floats.{floats}
 use Rattle.stage.specs.Runs.{turning}
 use Rattle.stage.proofs.Same.{run-housed}
 use Rattle.stage.proofs.Theorems.{filled-run}
-use Rattle.ends.specs.Ends.{endCell, endLent, ended, fftSteps, postprocess-fft}
+use Rattle.mixing.specs.Steps.{fftSteps}
+use Rattle.ends.specs.Ends.{endCell, endLent, ended, postprocess-fft}
 use Rattle.ends.proofs.Cells.{cell-tabulated, length-ended}
 use Rattle.spectrum.specs.Calls.{Forwards}
+use Rattle.scratch.specs.Scratch.{padOf}
+use Rattle.scratch.proofs.Scratch.{pad-length}
 use Rattle.transform.specs.Parts.{Forwardable}
-use Rattle.transform.specs.Transforms.{Slices, padOf, forwardRun, forwardOf}
-use Rattle.transform.proofs.Scratch.{pad-length}
+use Rattle.transform.specs.Transforms.{Slices, forwardRun, forwardOf}
 use Rattle.counts.proofs.Counts.{pairs-lent}
 use Rattle.spectrum.proofs.Verdicts.{forwardable}
 use Rattle.accuracy.specs.Gauss.{Gauss, timesG, scaleG, Disc, Off, valC}

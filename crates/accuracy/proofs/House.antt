@@ -1,11 +1,12 @@
 -- The house table's turns before rounding, and that they keep the rules of a circle. Assumes nothing.
 use Rattle.sequences.proofs.Basics.{_≡_, refl, sym, ap, ap₂, _∙_, subst, ℕ, zero, suc, _+_, _-_, _*_, _/_, _%_, _^_, _≤_, _<_, mod-lt, zero-lt-suc, arith}
 use Rattle.sequences.proofs.Basics.{decLe, dite, lit≤}
-use Rattle.turn.specs.Rule.{cosine, sine}
-use Rattle.turn.specs.Turns.{entryOf, plain, exchanged, quartersOn}
-use Rattle.turn.specs.declared.inner.lookup.Entry.{Entry}
-use Rattle.turn.proofs.Lookup.{entry-plain, entry-exchanged}
-use Rattle.turn.proofs.Rule.{house-rule}
+use Rattle.house.specs.Rule.{cosine, sine}
+use Rattle.house.specs.Entries.{entryOf, plain, exchanged}
+use Rattle.house.specs.declared.inner.entries.Entry.{Entry}
+use Rattle.house.proofs.Entries.{entry-plain, entry-exchanged}
+use Rattle.house.proofs.Rule.{house-rule}
+use Rattle.turn.specs.Turns.{quartersOn}
 use Rattle.accuracy.specs.Gauss.{Gauss}
 use Rattle.accuracy.specs.House.{house}
 use Rattle.accuracy.specs.Value.{signed, negZ}

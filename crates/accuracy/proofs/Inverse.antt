@@ -28,12 +28,14 @@ use Rattle.kernel.specs.Floats.{floats, houseFloats}
 use Rattle.stage.specs.Runs.{turning}
 use Rattle.stage.proofs.Same.{run-housed}
 use Rattle.stage.proofs.Theorems.{filled-run}
-use Rattle.ends.specs.Ends.{endCell, endLent, ended, ifftSteps, preprocess-ifft, conjugated, zeros}
+use Rattle.mixing.specs.Steps.{ifftSteps}
+use Rattle.ends.specs.Ends.{endCell, endLent, ended, preprocess-ifft, conjugated, zeros}
 use Rattle.ends.proofs.Cells.{cell-tabulated, length-ended, length-conjugated}
 use Rattle.spectrum.specs.Calls.{Inverts}
+use Rattle.scratch.specs.Scratch.{dataOf, padOf}
+use Rattle.scratch.proofs.Scratch.{pad-length}
 use Rattle.transform.specs.Parts.{Invertible}
-use Rattle.transform.specs.Transforms.{Slices, dataOf, padOf, preparedOf, inverseRun, restored, inverseOf}
-use Rattle.transform.proofs.Scratch.{pad-length}
+use Rattle.transform.specs.Transforms.{Slices, preparedOf, inverseRun, restored, inverseOf}
 use Rattle.counts.proofs.Counts.{pairs-lent}
 use Rattle.spectrum.proofs.Verdicts.{invertible}
 use Rattle.accuracy.specs.Gauss.{Gauss, minusG, timesG, scaleG, Disc, Off, valC}

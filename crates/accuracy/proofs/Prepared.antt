@@ -4,7 +4,8 @@ use Rattle.sequences.proofs.Basics.{mul-le-mul-left, arith, decLe, Bool, cond, 
 use lib.Ieee.{Float, binary32, sub, neg}
 use Rattle.floats.specs.Complexes.{cx, plus}
 use Rattle.floats.specs.declared.complex.Complex.{Complex}
-use Rattle.ends.specs.Ends.{endCell, ifftSteps}
+use Rattle.mixing.specs.Steps.{ifftSteps}
+use Rattle.ends.specs.Ends.{endCell}
 use Rattle.finite.proofs.Ends.{end-cell}
 use Rattle.accuracy.specs.Gauss.{Gauss, plusG, minusG, timesG, scaleG, Disc, Off, valC}
 use Rattle.accuracy.specs.House.{house}

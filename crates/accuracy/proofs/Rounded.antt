@@ -11,7 +11,8 @@ use lib.Ieee.Exact.{HasValue, round-exact}
 use lib.Ieee.Order.{drop, kept}
 use lib.Ieee.Scale.{grid, round-same}
 use Rattle.schedule.specs.Stage.{Part}
-use Rattle.turn.specs.Turns.{indexOf, entryOf, rounded, quartersOn, numbersAt, quarters, turnAt, turnOf, wordsOf}
+use Rattle.house.specs.Entries.{entryOf}
+use Rattle.turn.specs.Turns.{indexOf, rounded, quartersOn, numbersAt, quarters, turnAt, turnOf, wordsOf}
 use Rattle.turn.proofs.Lookup.{turn-whole, turn-numbers}
 use Rattle.turn.proofs.Theorems.{words-are}
 use Rattle.floats.specs.Complexes.{cx}

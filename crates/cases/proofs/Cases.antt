@@ -8,7 +8,7 @@ use Rattle.refusal.specs.declared.Verdict.{Verdict}
 use Rattle.refusal.specs.declared.Verdict.the-variants.{Accepted, Refused}
 use Rattle.refusal.proofs.Rows.{settled}
 use Rattle.counts.specs.Counts.{radix, stride, twiddleCount, twiddleStart, endCount, resultIn}
-use Rattle.merging.specs.Half.{halving, halved, half}
+use Rattle.halving.specs.Half.{halving, halved, half}
 use Rattle.radices.specs.Lists.{isRadix, product, firstBad, indexOf, firstOver, countOf, padded, eqList}
 use Rattle.sequences.specs.Lists.{firstThat, tabulate}
 use Rattle.merging.specs.Merging.{tally, applies, merge, firstRule, rulesUpTo, rules, mergedBy, merged, letters, sorted}

@@ -1,7 +1,7 @@
 -- Wrong programs that the promises of planning shut out: merge counts and twiddle counts made up. Assumes nothing.
 use Rattle.sequences.proofs.Basics.{_≡_, refl, ap, _∙_, ℕ, arith, List, [], _∷_}
 use Rattle.counts.specs.Counts.{radix, twiddleCount, twiddleStart, stageTwiddles, endCount, recordVerdict, counted, CountsStage, CountsEnd}
-use Rattle.merging.specs.Half.{halving, halved, half}
+use Rattle.halving.specs.Half.{halving, halved, half}
 use Rattle.radices.specs.Lists.{isRadix, product, firstBad, indexOf, firstOver, countOf, padded, eqList}
 use Rattle.sequences.specs.Lists.{firstThat}
 use Rattle.merging.specs.Merging.{tally, applies, merge, firstRule, rulesUpTo, rules, mergedBy, merged, letters, sorted, marked}

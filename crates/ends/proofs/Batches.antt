@@ -7,7 +7,8 @@ use Rattle.sequences.proofs.Pasted.{length-pasted, pasted-before, pasted-in, pa
 use Rattle.floats.specs.Complexes.{cx, cell, putCell}
 use Rattle.floats.specs.declared.complex.Complex.{Complex}
 use Rattle.floats.proofs.Flat.{cell-take, cell-drop, get-put, get-other}
-use Rattle.ends.specs.Ends.{Steps, endCell, endLent}
+use Rattle.mixing.specs.Steps.{Steps}
+use Rattle.ends.specs.Ends.{endCell, endLent}
 use Rattle.ends.specs.Parts.{Batched, Stepped}
 use Rattle.ends.proofs.Cells.{end-near, end-far}
 

@@ -7,7 +7,8 @@ use Rattle.sequences.proofs.Tables.{length-tabulate, getD-tabulate, table-all}
 use Rattle.floats.specs.Complexes.{blank, conjugate, cell, putCell, paired, flat}
 use Rattle.floats.specs.declared.complex.Complex.{Complex}
 use Rattle.floats.proofs.Flat.{get-paired, length-paired, flat-paired, length-flat, cell-flat, length-put, get-put, get-other}
-use Rattle.ends.specs.Ends.{Steps, endCell, endLent, ended, conjugated}
+use Rattle.mixing.specs.Steps.{Steps}
+use Rattle.ends.specs.Ends.{endCell, endLent, ended, conjugated}
 use Rattle.ends.specs.Parts.{Stepped}
 
 -- words whose cells are f 0, f 1, .. are these written out

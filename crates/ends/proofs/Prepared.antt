@@ -1,12 +1,13 @@
 -- The steps that conjugate every cell but h are the steps, and then the first h cells conjugated. Assumes nothing.
-use Rattle.sequences.proofs.Basics.{_≡_, refl, sym, ap, _∙_, ℕ, _+_, _-_, _*_, _<_, arith, ℕ-discrete, Bool, true, false, cond, List, _++_, eqb, ltb, length}
+use Rattle.sequences.proofs.Basics.{_≡_, refl, sym, ap, _∙_, ℕ, _+_, _*_, _<_, arith, ℕ-discrete, Bool, true, false, cond, List, _++_, eqb, ltb, length}
 use Rattle.sequences.proofs.Basics.{take, drop, length-append, length-drop, ne-eqb}
 use lib.Ieee.{Float}
 use Rattle.floats.specs.Complexes.{conjugate, cell}
 use Rattle.floats.specs.declared.complex.Complex.{Complex}
 use Rattle.floats.proofs.Flat.{cell-take, cell-drop, cell-front, cell-back}
-use Rattle.ends.specs.Ends.{Steps, endCell, endLent, ended, conjugated}
-use Rattle.ends.specs.Parts.{conjugating}
+use Rattle.mixing.specs.Steps.{Steps}
+use Rattle.mixing.specs.Parts.{conjugating}
+use Rattle.ends.specs.Ends.{endCell, endLent, ended, conjugated}
 use Rattle.ends.proofs.Cells.{flat-cells, cell-tabulated, length-ended, length-conjugated, end-last}
 
 -- a choice, conjugated

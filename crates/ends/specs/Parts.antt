@@ -1,28 +1,14 @@
 -- What the steps at the ends ask for, and what they have done after some pairs. Assumes nothing.
 use Prim.Native.Nat.{ℕ, _+_, _-_, _*_, _≤_, _<_}
 use mathlib.Core.Path.{_≡_}
-use mathlib.Core.Bool.{Bool, cond}
 use mathlib.Core.List.{List}
 use lib.Ieee.{Float}
 use lib.ListN.{length}
-use Rattle.floats.specs.Complexes.{conjugate, cell}
+use Rattle.floats.specs.Complexes.{cell}
 use Rattle.floats.specs.declared.complex.Complex.{Complex}
-use Rattle.ends.specs.Ends.{Steps, endCell, endLent, ended, fftSteps, ifftSteps}
-
--- the same steps, every cell but h conjugated
-abbrev pub conjugating : Steps → Steps
-conjugating s =
-    record {
-      first = λ x y. conjugate (s .first x y);
-      last = s .last;
-      near = λ a b t. conjugate (s .near a b t);
-      far = λ a b t. conjugate (s .far a b t);
-      centre = λ c. conjugate (s .centre c);
-    }
-
--- those of either direction, the inverse's with the conjugation that follows them
-abbrev pub stepsOf : (forward : Bool) → Steps
-stepsOf forward = cond forward fftSteps (conjugating ifftSteps)
+use Rattle.mixing.specs.Steps.{Steps, ifftSteps}
+use Rattle.mixing.specs.Parts.{conjugating}
+use Rattle.ends.specs.Ends.{endCell, endLent, ended}
 
 -- `preprocess-ifft`, all cells but h conjugated
 abbrev pub prepared : (h : ℕ) → (tw xs : List Float) → List Float

@@ -7,7 +7,8 @@ use Rattle.sequences.proofs.Tables.{length-tabulate, getD-tabulate}
 use Rattle.turn.specs.Turns.{+0, 0·5}
 use Rattle.floats.specs.Complexes.{blank, plus, minus, conjugate, cell, flat}
 use Rattle.floats.specs.declared.complex.Complex.{Complex}
-use Rattle.ends.specs.Ends.{mixed, fftNear, fftFar, ifftNear, ifftFar, Steps, endCell, fftSteps, ifftSteps, conjugated}
+use Rattle.mixing.specs.Steps.{mixed, fftNear, fftFar, ifftNear, ifftFar, Steps, fftSteps, ifftSteps}
+use Rattle.ends.specs.Ends.{endCell, conjugated}
 use Rattle.finite.specs.Sizes.{AtMost, Both, Words}
 use Rattle.finite.proofs.Sizes.{Room, add-most, sub-most, mul-most, neg-most}
 use Rattle.finite.proofs.Stages.{six, plus-both, minus-both, once-most, both-shifted, conjugate-both}

@@ -21,9 +21,11 @@ use Rattle.floats.specs.declared.complex.Complex.{Complex}
 use Rattle.floats.proofs.Flat.{get-paired}
 use Rattle.kernel.specs.Floats.{floats, lentAt, stageOf}
 use Rattle.stage.specs.Runs.{ownOf, stageIn}
-use Rattle.ends.specs.Ends.{endCell, ended, ifftSteps, postprocess-fft, conjugated, zeros}
+use Rattle.mixing.specs.Steps.{ifftSteps}
+use Rattle.ends.specs.Ends.{endCell, ended, postprocess-fft, conjugated, zeros}
+use Rattle.scratch.specs.Scratch.{dataOf, padOf}
 use Rattle.transform.specs.Parts.{Forwardable, Invertible}
-use Rattle.transform.specs.Transforms.{dataOf, padOf, forwardRun, forwardOf, preparedOf, inverseRun, restored, inverseOf}
+use Rattle.transform.specs.Transforms.{forwardRun, forwardOf, preparedOf, inverseRun, restored, inverseOf}
 use Rattle.finite.specs.Whole.{IsWhole, AreWhole, bin, Short, Small, Samples, IsBins}
 use Rattle.finite.proofs.Whole.{Sum, none, at, minus, _⊕_, part, copies, times-copies, Held, held-add, held-sub, held-neg, held-zero, held-as}
 

@@ -1,5 +1,5 @@
 -- Every word of a filling is at most 1. Assumes nothing.
-use Rattle.sequences.proofs.Basics.{ℕ, zero, suc, _≤_, arith, List, lit≤}
+use Rattle.sequences.proofs.Basics.{ℕ, zero, suc, arith, List, lit≤}
 use lib.Ieee.{Float, ofBits}
 use Rattle.sequences.specs.Pairs.{pairs}
 use Rattle.packing.specs.Places.{packed}

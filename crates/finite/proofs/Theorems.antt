@@ -2,7 +2,7 @@
 -- the transform itself. Finite: within the bounds that acceptance checks (samples to 2 ^ 32, numbers of bins to 2 ^ 48, twiddles to 1) every number
 -- written or answered is finite, with a bound below 2 ^ 128; so two runs that meet a promise leave the same bits in every word that a call writes. A
 -- plan has at most 13 stages. Assumes nothing.
-use Rattle.sequences.proofs.Basics.{_≡_, refl, sym, ap, _∙_, subst, ℕ, _+_, _*_, _≤_, _<_, arith, List, lit≤, length, getD, eqb-true}
+use Rattle.sequences.proofs.Basics.{_≡_, refl, sym, ap, _∙_, subst, ℕ, _+_, _*_, _<_, arith, List, lit≤, length, getD, eqb-true}
 use lib.IntN.{ℤ, pos, _*ℤ_}
 use lib.Ieee.{Float, nan}
 use Rattle.refusal.specs.declared.Verdict.{Verdict}
@@ -16,7 +16,8 @@ use Rattle.stage.specs.Calls.{Stages}
 use Rattle.stage.proofs.Unique.{Stages-one}
 use Rattle.spectrum.specs.Calls.{Forwards, Inverts}
 use Rattle.power.specs.Power.{Powers}
-use Rattle.transform.specs.Transforms.{Slices, dataOf, padOf}
+use Rattle.scratch.specs.Scratch.{dataOf, padOf}
+use Rattle.transform.specs.Transforms.{Slices}
 use Rattle.power.specs.declared.Summed.{Summed}
 use Rattle.spectrum.proofs.Unique.{Forwards-one, Inverts-one}
 use Rattle.power.proofs.Unique.{Powers-one}

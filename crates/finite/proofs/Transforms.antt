@@ -22,11 +22,14 @@ use Rattle.floats.specs.Complexes.{cell}
 use Rattle.packing.proofs.Places.{place-lt}
 use Rattle.stage.specs.Runs.{stageIn, runOf, lentTo}
 use Rattle.stage.proofs.Runs.{own-within}
-use Rattle.ends.specs.Ends.{endCell, endLent, ended, fftSteps, ifftSteps, preprocess-ifft, conjugated, zeros}
+use Rattle.mixing.specs.Steps.{fftSteps, ifftSteps}
+use Rattle.ends.specs.Ends.{endCell, endLent, ended, preprocess-ifft, conjugated, zeros}
 use Rattle.ends.proofs.Cells.{length-ended, length-conjugated}
+use Rattle.scratch.specs.Scratch.{dataOf, padOf}
+use Rattle.scratch.proofs.Scratch.{data-length, pad-length, both-data, both-pad}
 use Rattle.transform.specs.Parts.{Forwardable, Invertible}
-use Rattle.transform.specs.Transforms.{dataOf, padOf, forwardRun, forwardOf, preparedOf, inverseRun, restored, inverseOf}
-use Rattle.transform.proofs.Scratch.{data-length, pad-length, both-data, both-pad, run-long}
+use Rattle.transform.specs.Transforms.{forwardRun, forwardOf, preparedOf, inverseRun, restored, inverseOf}
+use Rattle.transform.proofs.Stages.{run-long}
 use Rattle.transform.proofs.Transforms.{held-long}
 use Rattle.finite.specs.Sizes.{AtMost, Both, Words}
 use Rattle.finite.proofs.Ends.{zero-most, fft-cell, ifft-cell, tabulated-words, conjugated-words}

@@ -4,7 +4,8 @@ use mathlib.Core.Path.{_≡_}
 use mathlib.Core.List.{List, [], _∷_}
 use lib.Ieee.{Float, binary32, ofBits}
 use Rattle.plan.specs.declared.Record.{Record}
-use Rattle.transform.specs.Transforms.{Slices, dataOf, padOf}
+use Rattle.scratch.specs.Scratch.{dataOf, padOf}
+use Rattle.transform.specs.Transforms.{Slices}
 
 -- these bits are read as this float
 pub record Holds (b : ℕ) (x : Float) : Type 0 where

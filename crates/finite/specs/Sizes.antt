@@ -12,7 +12,8 @@ use Rattle.plan.specs.declared.Record.{Record}
 use Rattle.packing.specs.Places.{isWidth}
 use Rattle.floats.specs.declared.complex.Complex.{Complex}
 use Rattle.spectrum.specs.Calls.{binWords}
-use Rattle.transform.specs.Transforms.{Slices, dataOf, padOf}
+use Rattle.scratch.specs.Scratch.{dataOf, padOf}
+use Rattle.transform.specs.Transforms.{Slices}
 
 -- finite, and at most q * 2 ^ k in magnitude
 abbrev pub AtMost : (q k : ℕ) → Float → Type 0

@@ -10,8 +10,8 @@ use Rattle.floats.specs.declared.complex.Complex.{Complex}
 use Rattle.floats.specs.Complexes.{blank, cell}
 use Rattle.kernel.specs.Parts.{kernelOf, readOf, outputOf, Sized}
 use Rattle.kernel.proofs.Kernel.{outputs-of, eight, sized-at}
-use Rattle.lanes.specs.Parts.{Wrote, Done}
-use Rattle.lanes.proofs.Writes.{wrote-as}
+use Rattle.storing.specs.Parts.{Wrote, Done}
+use Rattle.storing.proofs.Writes.{wrote-as}
 
 -- the radix that is left, as a match leaves it
 pub other : {M r ns : ℕ} {u : Type 0} → Sized M r ns → ((((u × (r ≡ 2 → ⊥)) × (r ≡ 3 → ⊥)) × (r ≡ 4 → ⊥)) × (r ≡ 5 → ⊥)) × (r ≡ 7 → ⊥) → r ≡ 8

@@ -7,8 +7,9 @@ use Rattle.floats.specs.Complexes.{cell}
 use Rattle.floats.specs.declared.complex.Complex.{Complex}
 use Rattle.kernel.specs.Floats.{lentAt}
 use Rattle.kernel.specs.Parts.{outputOf}
-use Rattle.lanes.specs.Parts.{Done, Pairs, Paired, Blocks, Stored, Batch, Even, Evenly, Placed}
-use Rattle.lanes.proofs.Batches.{even-none, even-add, even-sub, even-mul}
+use Rattle.lanes.specs.Parts.{Pairs, Paired}
+use Rattle.storing.specs.Parts.{Done, Blocks, Stored, Batch, Even, Evenly, Placed}
+use Rattle.storing.proofs.Batches.{even-none, even-add, even-sub, even-mul}
 
 pub even-batch : (e i M s r nd : ℕ) {n : ℕ} → Even e s → Blocks M s r nd → Even e i → (M - i < 16 → n ≡ M - i) → (16 ≤ M - i → n ≡ 16) → Even e n
 even-batch e i M s r nd {n} v b w less more = pick (decLe 16 (M - i))

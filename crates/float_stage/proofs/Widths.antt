@@ -11,7 +11,8 @@ use Rattle.floats.specs.declared.complex.Complex.{Complex}
 use Rattle.floats.specs.Complexes.{cell}
 use Rattle.floats.proofs.Flat.{cell-drop}
 use Rattle.kernel.specs.Floats.{lentAt}
-use Rattle.lanes.specs.Parts.{Wrote, Fetched, Fetched4}
+use Rattle.lanes.specs.Parts.{Fetched, Fetched4}
+use Rattle.storing.specs.Parts.{Wrote}
 use Rattle.float_stage.specs.declared.inner.lent.Layout.{Layout}
 use Rattle.float_stage.specs.declared.inner.lent.Layout.the-variants.{Beside, Apart}
 

@@ -1,5 +1,5 @@
 -- Laws of the work of a stage: what an accepted plan gives its parts, and that they make the stage. Assumes nothing.
-use Rattle.sequences.proofs.Basics.{_≡_, refl, sym, ap, _∙_, ℕ, _-_, _*_, _/_, _≤_, _<_, le-of-lt, div-mul-le-self, div-le-self, arith, true, false, List, eqb}
+use Rattle.sequences.proofs.Basics.{_≡_, refl, sym, ap, _∙_, ℕ, _*_, _/_, _≤_, _<_, le-of-lt, div-mul-le-self, div-le-self, arith, true, false, List, eqb}
 use Rattle.sequences.proofs.Basics.{length, getD, eq-eqb, ne-eqb}
 use lib.Ieee.{Float}
 use Rattle.counts.specs.Counts.{radix, stride}
@@ -15,7 +15,7 @@ use Rattle.floats.proofs.Flat.{get-paired, length-paired, flat-paired}
 use Rattle.floats.specs.declared.complex.Complex.{Complex}
 use Rattle.kernel.specs.Floats.{floats, lentAt, stageOf}
 use Rattle.kernel.specs.Parts.{lentBy, outputOf, Sized}
-use Rattle.lanes.specs.Parts.{Done, Blocks}
+use Rattle.storing.specs.Parts.{Done, Blocks}
 use Rattle.float_stage.specs.Parts.{Lending, Workable}
 use Rattle.kernel.proofs.Kernel.{output-same}
 

@@ -6,8 +6,7 @@ use Rattle.floats.specs.declared.complex.Complex.{Complex}
 use Rattle.floats.specs.Complexes.{blank, cell}
 use Rattle.kernel.specs.Parts.{kernelOf, readOf, outputOf, Sized}
 use Rattle.lanes.specs.Parts.{Fetched, Held, Saved, Pairs, Paired}
-use Rattle.lanes.proofs.Writes.{saved-as}
-use Rattle.lanes.proofs.Places.{held-step}
+use Rattle.lanes.proofs.Writes.{saved-as, held-step}
 use Rattle.kernel.proofs.Kernel.{output-of, eight, sized-at}
 
 -- what is left of the radices of a later stage, as a match leaves it

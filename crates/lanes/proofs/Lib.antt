@@ -1,5 +1,3 @@
 -- The laws that the proofs share, by subject.
 pub mod Writes
-pub mod Places
-pub mod Batches
 pub mod Arms

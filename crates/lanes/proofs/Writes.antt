@@ -1,35 +1,12 @@
--- One more cell written, in a flat list and in a lane. Assumes nothing.
-use Rattle.sequences.proofs.Basics.{_≡_, refl, ap₂, _∙_, ℕ, _+_, _*_, _%_, _≤_, _<_, not-suc-le-zero, arith, List, length, set, length-set, getD-set-same}
+-- One more output in a lane, and one more lane. Assumes nothing.
+use Rattle.sequences.proofs.Basics.{_≡_, refl, ap₂, _∙_, ℕ, _+_, _*_, _%_, _≤_, _<_, arith, ℕ-discrete, List, length, set, length-set, getD-set-same}
 use Rattle.sequences.proofs.Basics.{getD-set-other}
 use lib.Ieee.{Float, nan}
 use Rattle.schedule.specs.Parts.{Every}
 use Rattle.schedule.proofs.Fill as Fill
 use Rattle.floats.specs.declared.complex.Complex.{Complex}
-use Rattle.floats.specs.Complexes.{cx, putCell}
-use Rattle.floats.proofs.Flat.{length-put, get-put, get-other}
-use Rattle.lanes.specs.Parts.{Wrote, Taken, Saved}
-
-module _ (g : ℕ → Complex) (at : ℕ) (ys : List Float) where
-  pub wrote-none : Wrote g at 0 ys ys
-  wrote-none = record { size = refl; cells = Fill.wrote-none (λ t l. not-suc-le-zero l) }
-
-  pub wrote-step : (n : ℕ) (ys′ ys″ : List Float) (z : Complex) → 2 * (at + n) + 1 < length ys → Wrote g at n ys ys′ → z ≡ g n → ys″ ≡ putCell ys′ (at + n) z
-      → Wrote g at (n + 1) ys ys″
-  wrote-step n ys′ ys″ z l w e f = rw (f, e)
-      (record {
-        size = length-put ys′ (at + n) (g n) ∙ w .size;
-        cells = Fill.wrote-next n (omega arith) (λ t lt. omega arith) (λ t lt ne. (omega (arith, ne), λ x. ne (omega arith)))
-            (get-put ys′ (at + n) (g n) (rw (w .size) l)) (get-other ys′ (at + n) (g n)) (w .cells);
-      })
-
-  pub wrote-as : (h : ℕ → Complex) {n : ℕ} {ys′ : List Float} → ((t : ℕ) → t < n → g t ≡ h t) → Wrote g at n ys ys′ → Wrote h at n ys ys′
-  wrote-as h e w = record { size = w .size; cells = Fill.wrote-as (λ t l. (refl, e t l)) (w .cells) }
-
-  pub wrote-from : {at′ n : ℕ} {ys′ : List Float} → at ≡ at′ → Wrote g at n ys ys′ → Wrote g at′ n ys ys′
-  wrote-from e w = rw e at w
-
-  pub wrote-all : {n m : ℕ} {ys′ : List Float} → n ≡ m → Wrote g at n ys ys′ → Wrote g at m ys ys′
-  wrote-all e w = rw e at w
+use Rattle.floats.specs.Complexes.{cx}
+use Rattle.lanes.specs.Parts.{lane, Held, Taken, Saved}
 
 -- every second output to lane j
 module _ (g : ℕ → Complex) (b j : ℕ) (re im : List Float) where
@@ -60,3 +37,12 @@ module _ (g : ℕ → Complex) (j : ℕ) (re im : List Float) where
 
   pub saved-as : (h : ℕ → Complex) {n : ℕ} {re′ im′ : List Float} → ((p : ℕ) → p < n → g p ≡ h p) → Saved g j n re im re′ im′ → Saved h j n re im re′ im′
   saved-as h e w = record { size-re = w .size-re; size-im = w .size-im; cells = Fill.wrote-as (λ p l. (refl, e p l)) (w .cells) }
+
+-- one more lane
+pub held-step : (i j r : ℕ) (v : ℕ → ℕ → Complex) (re im re′ im′ : List Float) → j < 16 → Saved (v (i + j)) j r re im re′ im′ → Held i j r v re im
+    → Held i (j + 1) r v re′ im′
+held-step i j r v re im re′ im′ lj w before j′ p lj′ lp = pick (ℕ-discrete j′ j)
+  where
+    pick : Dec (j′ ≡ j) → lane re′ im′ (16 * p + j′) ≡ v (i + j′) p
+    pick (yes e) = rw e (w .cells .inside p lp)
+    pick (no f) = w .cells .outside (16 * p + j′) (λ q lq e. f (omega arith)) ∙ before j′ p (omega (arith, f)) lp

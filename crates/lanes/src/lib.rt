@@ -1,2 +1,2 @@
-// Sixteen iterations of a later stage in lanes, and their way to their cells.
+// Sixteen iterations of a later stage in lanes.
 pub mod inner;

@@ -1,4 +1,3 @@
 -- The laws that callers' proofs cite.
-pub mod Half
 pub mod Merging
 pub mod Weights

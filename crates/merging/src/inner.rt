@@ -1,3 +1,2 @@
 // What other crates call under a proof.
-pub mod halving;
 pub mod merging;

@@ -1,4 +1,4 @@
-// The half list of a list of radices, and the merging of its radices.
+// The merging of radices.
 pub mod inner;
 
 // The merges that led to a plan, by their letters, unused entries 0.

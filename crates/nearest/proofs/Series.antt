@@ -3,9 +3,9 @@ use Rattle.sequences.proofs.Basics.{_≡_, subst, ℕ, zero, suc, _+_, _*_, _^_
 use Rattle.sequences.proofs.Basics.{sub-le, sub-add-cancel, mul-le-mul, mul-le-mul-right, le-mul-of-pos-right, mul-pos, zero-lt-suc, arith, Bool, true, _&&_}
 use Rattle.sequences.proofs.Basics.{List, [], _∷_, T, lit≤, length, getD}
 use lib.Ieee.Fits.{and-l, and-r}
-use Rattle.turn.specs.House.{cosines, sines}
-use Rattle.turn.proofs.Rule.{counts}
-use Rattle.turn.proofs.Table.{Ordered, ordered, ordered-is}
+use Rattle.house.specs.House.{cosines, sines}
+use Rattle.house.proofs.Rule.{counts}
+use Rattle.house.proofs.Table.{Ordered, ordered, ordered-is}
 use Rattle.nearest.specs.Series.{Fraction, Less, over, under, cosineSum, sineSum, least, most, below, above, Encloses}
 use Rattle.nearest.specs.Table.{houseCosines, houseSines, houseCosine, houseSine}
 

@@ -6,8 +6,8 @@
 -- Assumes nothing.
 use Rattle.sequences.proofs.Basics.{_≡_, refl, ℕ, suc, _+_, _-_, _*_, _/_, _^_, _<_, _≤_, le-trans, mul-le-mul, mul-le-mul-left, mul-le-mul-right}
 use Rattle.sequences.proofs.Basics.{div-eq-of-lt-le, arith, lit≤}
-use Rattle.turn.specs.Rule.{Within, Rule}
-use Rattle.turn.proofs.Rule.{house-rule}
+use Rattle.house.specs.Rule.{Within, Rule}
+use Rattle.house.proofs.Rule.{house-rule}
 use Rattle.nearest.specs.Scale.{RuleAt, Nearest}
 use Rattle.nearest.specs.Series.{Less, AtMost, over, under, cosineSum, sineSum, least, most, below, above, Encloses}
 use Rattle.nearest.specs.Table.{houseCosine, houseSine}

@@ -2,9 +2,9 @@
 -- the whole table. Assumes nothing.
 use Rattle.sequences.proofs.Basics.{_≡_, refl, subst, sym, ℕ, zero, suc, _+_, _-_, _*_, _^_, _<_, _≤_, eq-or-lt-of-le, arith, inl, inr, List, [], _∷_, T, lit≤}
 use Rattle.sequences.proofs.Basics.{length, getD}
-use Rattle.turn.specs.House.{cosines, sines}
-use Rattle.turn.specs.Rule.{Within}
-use Rattle.turn.proofs.Table.{Ordered, Neighbours, everywhere, everywhere-at}
+use Rattle.house.specs.House.{cosines, sines}
+use Rattle.house.specs.Rule.{Within}
+use Rattle.house.proofs.Table.{Ordered, Neighbours, everywhere, everywhere-at}
 use Rattle.nearest.specs.Scale.{RuleAt}
 use Rattle.nearest.specs.Table.{houseCosines, houseSines, houseCosine, houseSine}
 use Rattle.nearest.proofs.Fine.{fineCosines, fineSines}

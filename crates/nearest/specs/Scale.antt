@@ -1,7 +1,7 @@
 -- The rule of the house table at any scale, and 'to nearest'. Assumes nothing.
 use Prim.Native.Nat.{ℕ, suc, _+_, _*_, _^_, _<_, _≤_}
 use mathlib.Core.Path.{_≡_}
-use Rattle.turn.specs.Rule.{Within}
+use Rattle.house.specs.Rule.{Within}
 
 -- the rule of entries 0 to n, with G for 2 ^ 60: `Rule` of the turns is `RuleAt (2 ^ 60)`
 pub record RuleAt (G : ℕ) (c s : ℕ → ℕ) (n : ℕ) : Type 0 where

@@ -2,7 +2,7 @@
 use Prim.Native.Nat.{ℕ}
 use mathlib.Core.List.{List}
 use lib.ListN.{getD}
-use Rattle.turn.specs.House.{cosines, sines}
+use Rattle.house.specs.House.{cosines, sines}
 
 -- its cosines and sines
 abbrev pub houseCosines : List ℕ

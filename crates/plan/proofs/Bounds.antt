@@ -1,5 +1,5 @@
 -- Laws of an accepted plan: its order, its sizes, and bounds of its radices. Assumes nothing.
-use Rattle.sequences.proofs.Basics.{_≡_, refl, sym, ap, _∙_, ℕ, zero, suc, _-_, _*_, _<_, _≤_, arith, true, List, [], _∷_, _++_, append-nil, length, getD, take}
+use Rattle.sequences.proofs.Basics.{_≡_, refl, sym, ap, _∙_, ℕ, zero, suc, _*_, _<_, _≤_, arith, true, List, [], _∷_, _++_, append-nil, length, getD, take}
 use Rattle.sequences.proofs.Basics.{replicate, getD-take, length-take-le}
 use Rattle.radices.specs.Lists.{isRadix}
 use Rattle.merging.specs.Merging.{tally, sorted}
@@ -10,7 +10,7 @@ use Rattle.radices.proofs.Products.{Radical, radix-least, product-positive}
 use Rattle.merging.proofs.Merging.{both}
 use Rattle.merging.proofs.Weights.{radical-sorted}
 use Rattle.plan.proofs.Records.{InOrder, in-order, Sized, well-sized, order-fits}
-use Rattle.merging.specs.Half.{half}
+use Rattle.halving.specs.Half.{half}
 
 -- an entry of a list of radices is a radix
 radical-at : (xs : List ℕ) (j : ℕ) → Radical xs → j < length xs → isRadix (getD xs j 0) ≡ true

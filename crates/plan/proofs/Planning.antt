@@ -8,7 +8,7 @@ use Rattle.plan.specs.declared.Planned.{Planned}
 use Rattle.merging.specs.declared.inner.merging.Tally.{Tally}
 use Rattle.merging.specs.declared.inner.merging.Merged.{Merged}
 use Rattle.radices.specs.Lists.{product, padded, listed}
-use Rattle.merging.specs.Half.{half}
+use Rattle.halving.specs.Half.{half}
 use Rattle.merging.specs.Merging.{tally, total, sorted, mergeAll}
 use Rattle.plan.specs.Record.{planVerdict, factors, recordOf, refusedPlan, acceptedPlan, plannedBy, planned}
 use Rattle.radices.proofs.Lists.{length-padded}

@@ -6,7 +6,7 @@ use Rattle.refusal.proofs.Rows.{deciding, accepted}
 use Rattle.refusal.specs.declared.Verdict.the-variants.{Accepted}
 use Rattle.radices.specs.Lists.{product, isRadix, indexOf, firstBad, firstOver, largest, padded, eqList}
 use Rattle.sequences.specs.Lists.{firstThat}
-use Rattle.merging.specs.Half.{half, halving, halved}
+use Rattle.halving.specs.Half.{half, halving, halved}
 use Rattle.merging.specs.Merging.{tally, total, merged, sorted}
 use Rattle.plan.specs.Record.{planVerdict, factors, recordOf, Plannable, inOrder, sized, isPlanned}
 use Rattle.plan.specs.declared.Record.{Record}
@@ -14,8 +14,8 @@ use Rattle.merging.specs.declared.inner.merging.Tally.{Tally}
 use Rattle.radices.proofs.Lists.{length-padded}
 use Rattle.merging.proofs.Merging.{and-false, both, low, Keeps, length-sorted, merged-leaves, closed, none-at, merged-stop}
 use Rattle.radices.proofs.Products.{Radical, radical, radical-none-bad, over-none-small, small-over-none, entries-few, bad-none, over-large, over-none-at}
+use Rattle.halving.proofs.Half.{Halved, half-halves}
 use Rattle.merging.proofs.Weights.{radical-sorted, weight, product-sorted, product-tally, tally-sorted, total-few, weight-tells}
-use Rattle.merging.proofs.Half.{Halved, half-halves}
 
 -- radices only, at most the largest length, not empty, even
 pub record Good (xs : List ℕ) : Type 0 where

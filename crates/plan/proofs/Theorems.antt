@@ -3,7 +3,7 @@
 use Rattle.sequences.proofs.Basics.{_≡_, refl, sym, ap, _∙_, ℕ, zero, suc, _+_, _*_, _/_, _%_, _^_, _<_, _≤_, arith, true, cond, _⊎_, List, eqb}
 use Rattle.refusal.specs.declared.Verdict.the-variants.{Accepted}
 use Rattle.radices.specs.Lists.{product, countOf}
-use Rattle.merging.specs.Half.{half}
+use Rattle.halving.specs.Half.{half}
 use Rattle.merging.specs.Merging.{tally, applies, merge, sorted}
 use Rattle.merging.specs.declared.inner.merging.Tally.{Tally}
 use Rattle.merging.specs.declared.inner.merging.Rule.{Rule}

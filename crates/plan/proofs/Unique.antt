@@ -8,7 +8,7 @@ use Rattle.plan.specs.declared.Record.{Record}
 use Rattle.plan.specs.declared.Planned.{Planned}
 use Rattle.radices.specs.Lists.{isRadix, product, firstBad, indexOf, firstOver, countOf}
 use Rattle.sequences.specs.Lists.{firstThat}
-use Rattle.merging.specs.Half.{halving, halved, half}
+use Rattle.halving.specs.Half.{halving, halved, half}
 use Rattle.merging.specs.Merging.{tally, applies, firstRule, rulesUpTo, rules, letters, marked}
 use Rattle.plan.specs.Record.{planVerdict, recordOf, refusedPlan, acceptedPlan, planned, Plans, Accepts}
 

@@ -15,7 +15,7 @@ use Rattle.plan.specs.declared.Record.{Record}
 use Rattle.merging.specs.declared.Merges.{Merges}
 use Rattle.plan.specs.declared.Planned.{Planned}
 use Rattle.radices.specs.Lists.{product, firstBad, firstOver, largest, padded, eqList}
-use Rattle.merging.specs.Half.{half}
+use Rattle.halving.specs.Half.{half}
 use Rattle.merging.specs.Merging.{tally, total, rules, merged, letters, marked, sorted}
 
 -- refusals 1, 2, 3 and 4, in this order

@@ -1,8 +1,8 @@
 // Planning: from a list of radices to the plan record.
 pub mod inner;
 
+use halving::inner::halving::half_list;
 use merging::Merges;
-use merging::inner::halving::half_list;
 use merging::inner::merging::ascending;
 use merging::inner::merging::counts_of;
 use merging::inner::merging::merge_all;

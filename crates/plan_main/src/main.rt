@@ -3,6 +3,7 @@
 use libc::STDERR_FILENO;
 use libc::STDIN_FILENO;
 use libc::STDOUT_FILENO;
+use text::Text;
 ghost use mathlib.Core.Path.{_≡_};
 ghost use lib.ListN.{length};
 
@@ -40,7 +41,7 @@ fn read_input(input: &mut [u8]) -> isize
 
 // Prints the report on an input.
 fn print(input: &[u8]) {
-    let text = plan_text::report(input);
+    let text: Text = plan_text::report(input);
     let bytes = text.bytes;
     let len = text.len;
     if !io::write_all(STDOUT_FILENO, &bytes[..len]) {

@@ -1,6 +1,6 @@
--- What the report takes from planning. Assumes nothing.
-use Rattle.sequences.proofs.Basics.{_≡_, refl, sym, ap, _∙_, ℕ, min, _≤_, arith, decLe, true, dite, List, length, take, take-length}
-use Rattle.sequences.proofs.Basics.{take-all}
+-- What the report takes from planning, and the words of its radices. Assumes nothing.
+use Rattle.sequences.proofs.Basics.{_≡_, refl, sym, ap, _∙_, ℕ, min, _≤_, arith, decLe, true, dite, List, length, take, take-length, take-all, zero, suc, _<_}
+use Rattle.sequences.proofs.Basics.{[], _∷_, map}
 use Rattle.refusal.specs.Refusal.{verdict}
 use Rattle.refusal.specs.declared.Verdict.{Verdict}
 use Rattle.refusal.specs.declared.Verdict.the-variants.{Accepted, Refused}
@@ -14,10 +14,11 @@ use Rattle.plan.specs.declared.Planned.{Planned}
 use Rattle.counts.proofs.Counts.{record-accepted}
 use Rattle.plan.proofs.Bounds.{plan-order}
 use Rattle.plan.proofs.Records.{accepted-good, planned-passes}
-use Rattle.plan_text.specs.Tokens.{radices, firstRead}
-use Rattle.plan_text.specs.Report.{linesOf, reportOf, textOf, Reports}
-use Rattle.plan_text.specs.Growing.{Holds}
-use Rattle.plan_text.specs.declared.Text.{Text}
+use Rattle.text.specs.Lines.{textOf, decimal}
+use Rattle.text.specs.Growing.{Holds}
+use Rattle.text.specs.declared.Text.{Text}
+use Rattle.tokens.specs.Tokens.{radices, firstRead}
+use Rattle.plan_text.specs.Report.{linesOf, reportOf, Reports, factorWords}
 
 -- a plan has at most 13 radices
 pub planned-count : (p : Record) → isPlanned p ≡ true → p .count ≤ 13
@@ -54,3 +55,16 @@ take-least n xs = dite (decLe (length xs) n) (λ (h : length xs ≤ n).
 pub reported : {xs : List ℕ} {r : Text} {input : List ℕ} → xs ≡ linesOf (planned (radices (firstRead input))) → Holds xs r → Reports input r
 unfolding reportOf
 reported {xs} {r} {input} e h = record { answer = h .text ∙ ap textOf e; fits = omega (arith, h .fits, ap length e) }
+
+-- the words of some radices
+pub some-factors : (count : ℕ) (rs : List ℕ) → 0 < count → 0 < length rs → factorWords (take count rs) ≡ map decimal (take count rs)
+unfolding factorWords
+some-factors zero rs p q = absurd (none p)
+  where
+    none : 0 < 0 → ⊥
+    none h = omega arith
+some-factors (suc k) [] p q = absurd (none q)
+  where
+    none : 0 < 0 → ⊥
+    none h = omega arith
+some-factors (suc k) (b ∷ bs) p q = refl

@@ -2,14 +2,14 @@
 use Rattle.sequences.proofs.Basics.{_≡_, refl, sym, ap, _∙_, ℕ, _-_, _≤_, arith, List, [], length, take, replicate, length-append, take-append-seam}
 use Rattle.radices.specs.Lists.{isRadix, product, firstBad, firstOver, indexOf, countOf, padded}
 use Rattle.sequences.specs.Lists.{firstThat}
-use Rattle.merging.specs.Half.{halving, halved, half}
+use Rattle.halving.specs.Half.{halving, halved, half}
 use Rattle.merging.specs.Merging.{tally, applies, merge, firstRule, rulesUpTo, rules, mergedBy, merged, letters, sorted, marked}
 use Rattle.plan.specs.Record.{planVerdict, factors, recordOf, refusedPlan, acceptedPlan, planned}
 use Rattle.counts.specs.Counts.{radix, twiddleCount, twiddleStart, endCount, resultIn}
-use Rattle.plan_text.specs.Tokens.{isBlank, tokensFrom, tokens, digitValue, radixOf, radices}
-use Rattle.plan_text.specs.Lines.{ascii, lastDigits, decimal}
+use Rattle.text.specs.Lines.{ascii, lastDigits, decimal}
+use Rattle.text.specs.declared.Text.{Text}
+use Rattle.tokens.specs.Tokens.{isBlank, tokensFrom, tokens, digitValue, radixOf, radices}
 use Rattle.plan_text.specs.Report.{factorWords, planLines, refusalLine, reportOf, Reports}
-use Rattle.plan_text.specs.declared.Text.{Text}
 
 -- the used bytes are the report
 pub report-used : {input : List ℕ} {r : Text} → Reports input r → take (r .len) (r .bytes) ≡ reportOf input

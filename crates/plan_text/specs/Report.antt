@@ -1,8 +1,8 @@
 -- What the plan program prints for which input. Assumes nothing.
-use Prim.Native.Nat.{ℕ, _-_, _≤_}
+use Prim.Native.Nat.{ℕ, _≤_}
 use mathlib.Core.Path.{_≡_}
 use mathlib.Core.List.{List, [], _∷_, _++_, map}
-use lib.ListN.{length, take, replicate}
+use lib.ListN.{length, take}
 use Rattle.refusal.specs.Refusal.{numberOf, placeOf}
 use Rattle.refusal.specs.declared.Refusal.{Refusal}
 use Rattle.refusal.specs.declared.Verdict.{Verdict}
@@ -14,9 +14,9 @@ use Rattle.merging.specs.declared.Merges.{Merges}
 use Rattle.plan.specs.declared.Planned.{Planned}
 use Rattle.counts.specs.declared.Buffer.{Buffer}
 use Rattle.counts.specs.declared.Buffer.the-variants.{Data, Scratchpad}
-use Rattle.plan_text.specs.Tokens.{radices, firstRead}
-use Rattle.plan_text.specs.Lines.{ascii, decimal, line}
-use Rattle.plan_text.specs.declared.Text.{Text}
+use Rattle.text.specs.Lines.{ascii, decimal, line, textOf}
+use Rattle.text.specs.declared.Text.{Text}
+use Rattle.tokens.specs.Tokens.{radices, firstRead}
 
 -- the radices as words, and a dash for none
 unfoldable pub factorWords : List ℕ → List (List ℕ)
@@ -55,10 +55,6 @@ linesOf a = linesBy (a .verdict) (a .plan) (a .merges)
 -- the first bytes of the input are read, parted into tokens and planned
 unfoldable pub reportOf : List ℕ → List ℕ
 reportOf input = linesOf (planned (radices (firstRead input)))
-
--- bytes as a text, unused bytes 0
-abbrev pub textOf : List ℕ → Text
-textOf xs = record { bytes = xs ++ replicate (256 - length xs) 0; len = length xs }
 
 -- what `report` promises of its answer
 pub record Reports (input : List ℕ) (r : Text) : Type 0 where

@@ -1,4 +1,2 @@
-// The parts of the report: tokens in, lines out.
+// The lines of the report.
 pub mod lines;
-pub mod text;
-pub mod tokens;

@@ -3,16 +3,11 @@ pub mod inner;
 
 use inner::lines::plan_lines;
 use inner::lines::refusal_line;
-use inner::tokens::least;
-use inner::tokens::read_radices;
 use refusal::Verdict;
+use text::Text;
+use tokens::inner::tokens::least;
+use tokens::inner::tokens::read_radices;
 ghost use Rattle.plan_text.specs.Report.{Reports};
-
-// A text: its bytes, of which the first `len` are used and the others 0.
-pub struct Text {
-    pub bytes: [u8; 256],
-    pub len: usize,
-}
 
 // What the plan program prints for an input, of which the first 4,096 bytes count.
 pub fn report(input: &[u8]) -> Text

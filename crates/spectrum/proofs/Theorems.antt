@@ -23,7 +23,8 @@ use Rattle.stage.proofs.Accepted.{all-fit-alike}
 use Rattle.stage.proofs.Same.{plan-agree, stage-lent}
 use Rattle.ends.specs.Ends.{postprocess-fft, zeros}
 use Rattle.spectrum.specs.Calls.{lentVerdict, Forwards, Inverts}
-use Rattle.transform.specs.Transforms.{Slices, withBoth, forwardRun, forwardOf, inverseRun, restored, inverseOf}
+use Rattle.scratch.specs.Scratch.{withBoth}
+use Rattle.transform.specs.Transforms.{Slices, forwardRun, forwardOf, inverseRun, restored, inverseOf}
 use Rattle.spectrum.proofs.Verdicts.{lent-taken, all-fit}
 
 -- ---- widths

@@ -1,5 +1,5 @@
 -- Laws of the verdicts: where a number does not fit, and what an accepted call tells. Assumes nothing.
-use Rattle.sequences.proofs.Basics.{_≡_, refl, sym, ap, _∙_, ℕ, _+_, _-_, _*_, _≤_, _<_, arith, ℕ-discrete, Bool, true, not, List, _++_, eqb, ltb, length}
+use Rattle.sequences.proofs.Basics.{_≡_, refl, sym, ap, _∙_, ℕ, _+_, _*_, _≤_, _<_, arith, ℕ-discrete, Bool, true, not, List, _++_, eqb, ltb, length}
 use Rattle.sequences.proofs.Basics.{length-append, ltb-false, eqb-true, eq-eqb, ne-eqb, not-true}
 use lib.Ieee.{Float}
 use Rattle.refusal.specs.declared.Verdict.{Verdict}

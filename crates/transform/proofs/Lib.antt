@@ -1,3 +1,3 @@
 -- The laws that the proofs share, by subject.
-pub mod Scratch
+pub mod Stages
 pub mod Transforms

@@ -1,11 +1,10 @@
 -- Laws of both directions: that the steps of the code, one after the other, make what the definitions state. Assumes nothing.
-use Rattle.sequences.proofs.Basics.{_≡_, refl, sym, ap, ap₂, _∙_, ℕ, zero, suc, _+_, _-_, _*_, _≤_, _<_, arith, true, cond, List, _++_}
-use Rattle.sequences.proofs.Basics.{append-assoc, ltb, length, take, drop, length-append, length-drop, length-take-le, take-at, drop-at, drop-drop}
-use Rattle.sequences.proofs.Basics.{drop-append-le, take-append-le, lt-ltb}
+use Rattle.sequences.proofs.Basics.{_≡_, refl, sym, ap, ap₂, _∙_, ℕ, zero, suc, _+_, _-_, _*_, _≤_, _<_, arith, true, cond, List, _++_, append-assoc, ltb}
+use Rattle.sequences.proofs.Basics.{length, take, drop, length-append, length-drop, length-take-le, take-at, drop-at, drop-drop, drop-append-le, take-append-le}
+use Rattle.sequences.proofs.Basics.{lt-ltb}
 use borrow.Rule.Slice.PartMut.{putMid}
 use lib.Ieee.{Float}
-use Rattle.sequences.specs.Lists.{pasted}
-use Rattle.sequences.proofs.Pasted.{front-pasted, tail-replaced, tail-length}
+use Rattle.sequences.proofs.Pasted.{tail-replaced, tail-length}
 use Rattle.counts.specs.Counts.{resultIn, bufferNumber, endCount}
 use Rattle.plan.specs.Record.{isPlanned}
 use Rattle.counts.specs.declared.Buffer.{Buffer}
@@ -15,13 +14,15 @@ use Rattle.plan.proofs.Bounds.{plan-half, plan-twice}
 use Rattle.counts.proofs.Counts.{pairs-lent}
 use Rattle.schedule.specs.Buffers.{Two, heldIn}
 use Rattle.stage.specs.Runs.{runOf}
-use Rattle.ends.specs.Ends.{ifftSteps, postprocess-fft, preprocess-ifft, conjugated, zeros}
+use Rattle.mixing.specs.Steps.{ifftSteps}
+use Rattle.ends.specs.Ends.{postprocess-fft, preprocess-ifft, conjugated, zeros}
 use Rattle.ends.specs.Parts.{prepared, Endable}
 use Rattle.ends.proofs.Cells.{length-ended, length-conjugated}
 use Rattle.ends.proofs.Prepared.{prepared-is}
-use Rattle.transform.specs.Transforms.{dataOf, padOf, withBoth, forwardRun, forwardOf, preparedOf, inverseRun, restored, inverseOf}
-use Rattle.transform.proofs.Scratch.{data-length, pad-length, data-replaced, front-data, front-drop, front-pad, front-rest, both-pasted, both-data}
-use Rattle.transform.proofs.Scratch.{both-pad, both-rest, run-long, within-beside}
+use Rattle.scratch.specs.Scratch.{dataOf, padOf, withBoth}
+use Rattle.scratch.proofs.Scratch.{data-length, pad-length, front-data, front-drop, front-pad, front-rest, both-data, both-pad}
+use Rattle.transform.specs.Transforms.{forwardRun, forwardOf, preparedOf, inverseRun, restored, inverseOf}
+use Rattle.transform.proofs.Stages.{run-long, within-beside}
 
 -- a result is one of two buffers of a length
 pub held-long : (n : ℕ) (which : Buffer) (b : Two Float) → length (b .0) ≡ n → length (b .1) ≡ n → length (heldIn which b) ≡ n
@@ -77,30 +78,6 @@ module _ (h : ℕ) (end xs s : List Float) (some : 0 < h) (room : 4 * h ≤ leng
       rw parts (sym (drop-drop (2 * h - 2) (2 * (h + 1)) (preprocess-ifft h end xs ++ drop (2 * (h + 1)) s))
       ∙ ap (drop (2 * h - 2)) (drop-at (preprocess-ifft h end xs) (drop (2 * (h + 1)) s) (2 * (h + 1)) (length-ended ifftSteps h end xs))
       ∙ drop-drop (2 * h - 2) (2 * (h + 1)) s)
-
--- Data conjugated and copied to the output, with x in the Scratchpad
-pub data-restored : (h : ℕ) (s o x s1 s2 o1 : List Float) → 4 * h ≤ length s → length x ≡ 2 * h → s1 ≡ withBoth h (dataOf h s, x) s
-    → s2 ≡ conjugated h (dataOf h s1) ++ drop (2 * h) s1 → o1 ≡ pasted o 0 (dataOf h s2)
-    → (s2 ≡ withBoth h (conjugated h (dataOf h s), x) s) × (o1 ≡ conjugated h (dataOf h s) ++ drop (2 * h) o)
-data-restored h s o x s1 s2 o1 room lx e1 e2 e3 =
-    let c : List Float = conjugated h (dataOf h s) in let lc : length c ≡ 2 * h = length-conjugated h (dataOf h s) in
-    let b : Two Float = (dataOf h s, x) in let ld = data-length h s room in
-    let d : dataOf h s1 ≡ dataOf h s = ap (dataOf h) e1 ∙ both-data h b s ld lx in
-    let p : padOf h s1 ≡ x = ap (padOf h) e1 ∙ both-pad h b s ld lx in
-    let r : drop (4 * h) s1 ≡ drop (4 * h) s = ap (drop (4 * h)) e1 ∙ both-rest h b s ld lx in
-    let f : s2 ≡ c ++ drop (2 * h) s1 = e2 ∙ ap (λ (u : List Float). conjugated h u ++ drop (2 * h) s1) d in (
-      f ∙ data-replaced h c s1 ∙ ap₂ (λ (u v : List Float). c ++ u ++ v) p r,
-      e3 ∙ ap (pasted o 0) (ap (dataOf h) f ∙ front-data h c s1 lc) ∙ front-pasted o c (2 * h) lc,
-    )
-
--- the output conjugated and copied to both buffers
-pub pad-restored : (h : ℕ) (s o o1 s1 s2 : List Float) → o1 ≡ conjugated h (dataOf h o) ++ drop (2 * h) o → s1 ≡ pasted s 0 (dataOf h o1)
-    → s2 ≡ pasted s1 (2 * h) (dataOf h o1) → s2 ≡ withBoth h (conjugated h (dataOf h o), conjugated h (dataOf h o)) s
-pad-restored h s o o1 s1 s2 e1 e2 e3 =
-    let c : List Float = conjugated h (dataOf h o) in let lc : length c ≡ 2 * h = length-conjugated h (dataOf h o) in
-    let g : dataOf h o1 ≡ c = ap (dataOf h) e1 ∙ front-data h c o lc in
-    let f : s1 ≡ c ++ drop (2 * h) s = e2 ∙ ap (pasted s 0) g ∙ front-pasted s c (2 * h) lc in
-    e3 ∙ ap₂ (λ (u v : List Float). pasted u (2 * h) v) f g ∙ both-pasted h c s lc c lc
 
 -- the result is in the Scratchpad only if stages ran
 ran-pad : (count : ℕ) → resultIn count ≡ Scratchpad → 0 < count

@@ -1,9 +1,9 @@
--- Both directions, step by step: what they leave in the output and in the scratch. h is a plan's half; the first 2h words of the
--- scratch are Data, the next 2h the Scratchpad, and the rest is not written. Assumes nothing.
+-- Both directions, step by step: what they leave in the output and in the scratch, of which nothing is written past the Scratchpad. h is a
+-- plan's half. Assumes nothing.
 use Prim.Native.Nat.{ℕ, _+_, _-_, _*_}
 use mathlib.Core.List.{List, _++_}
 use lib.Ieee.{Float}
-use lib.ListN.{take, drop}
+use lib.ListN.{drop}
 use Rattle.counts.specs.Counts.{resultIn}
 use Rattle.counts.specs.declared.Buffer.{Buffer}
 use Rattle.counts.specs.declared.Buffer.the-variants.{Data, Scratchpad}
@@ -11,17 +11,7 @@ use Rattle.plan.specs.declared.Record.{Record}
 use Rattle.schedule.specs.Buffers.{Two, heldIn}
 use Rattle.stage.specs.Runs.{runOf}
 use Rattle.ends.specs.Ends.{postprocess-fft, preprocess-ifft, conjugated, zeros}
-
--- the Data and the Scratchpad of a scratch
-abbrev pub dataOf : (h : ℕ) → List Float → List Float
-dataOf h s = take (2 * h) s
-
-abbrev pub padOf : (h : ℕ) → List Float → List Float
-padOf h s = take (2 * h) (drop (2 * h) s)
-
--- a scratch with these two in it
-abbrev pub withBoth : (h : ℕ) → Two Float → List Float → List Float
-withBoth h b s = b .0 ++ b .1 ++ drop (4 * h) s
+use Rattle.scratch.specs.Scratch.{dataOf, padOf, withBoth}
 
 -- the output and the scratch
 abbrev pub Slices : Type 0

@@ -4,10 +4,11 @@ use Rattle.sequences.proofs.Basics.{div-add-mod', arith, Bool, true, false, _&&
 use lib.Ieee.{round, ofBits, neg}
 use lib.Ieee.Fits.{and-l, and-r}
 use Rattle.radices.proofs.Products.{Radix, radix-is, radix-least}
+use Rattle.house.specs.House.{cosines, sines}
+use Rattle.house.specs.Entries.{entryOf, mirrored, plain, exchanged}
 use Rattle.turn.specs.declared.Turn.{Turn}
 use Rattle.turn.specs.Calls.{part, KernelPart}
-use Rattle.turn.specs.House.{cosines, sines}
-use Rattle.turn.specs.Turns.{housed, indexOf, entryOf, mirrored, plain, exchanged, rounded, numbersAt, quarters, turnAt, turnOf}
+use Rattle.turn.specs.Turns.{housed, indexOf, rounded, numbersAt, quarters, turnAt, turnOf}
 use Rattle.turn.proofs.Index.{whole-quarters}
 
 pub small : {t r : ℕ} → KernelPart t r → (t < r) × (2 ≤ r) × (r ≤ 8)

@@ -1,8 +1,4 @@
 -- The laws that the proofs share, by subject, and the theorems; `Theorems` is the one to open first.
-pub mod Table
-pub mod Rule
-pub mod Closest
-pub mod Nearest
 pub mod Lookup
 pub mod Index
 pub mod Kernel

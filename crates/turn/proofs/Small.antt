@@ -6,11 +6,12 @@ use lib.Ieee.{Float, nan, inf, fin, binary32, round, ofBits, neg, up, down, le}
 use lib.Ieee.Order.{round-mono}
 use lib.Ieee.Positive.{positive, num, den, between, le→cross}
 use Rattle.schedule.specs.Stage.{Part}
-use Rattle.turn.specs.Rule.{cosine, sine}
-use Rattle.turn.specs.Turns.{entryOf, indexOf, rounded, quartersOn, numbersAt, turnOf, wordsOf}
-use Rattle.turn.proofs.Rule.{house-rule, entries}
-use Rattle.turn.proofs.Lookup.{entry-has}
-use Rattle.turn.proofs.Nearest.{neg-round}
+use Rattle.house.specs.Rule.{cosine, sine}
+use Rattle.house.specs.Entries.{entryOf}
+use Rattle.house.proofs.Rule.{house-rule, entries}
+use Rattle.house.proofs.Entries.{entry-has}
+use Rattle.house.proofs.Nearest.{neg-round}
+use Rattle.turn.specs.Turns.{indexOf, rounded, quartersOn, numbersAt, turnOf, wordsOf}
 use Rattle.turn.proofs.Theorems.{words-are}
 
 -- finite, and at most 1 in magnitude

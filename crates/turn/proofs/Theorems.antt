@@ -3,9 +3,10 @@
 use Rattle.sequences.proofs.Basics.{_≡_, refl, sym, ap, _∙_, ℕ, zero, suc, _*_, _/_, _%_, _<_, _≤_, mod-lt, zero-lt-suc, arith, decLe, false, dite}
 use lib.Ieee.{round, ofBits, neg}
 use Rattle.schedule.specs.Stage.{Part}
+use Rattle.house.specs.House.{cosines, sines}
+use Rattle.house.specs.Entries.{entryOf, mirrored, plain, exchanged}
 use Rattle.turn.specs.declared.Turn.the-variants.{Zero, Quarter, Half, ThreeQuarter}
-use Rattle.turn.specs.House.{cosines, sines}
-use Rattle.turn.specs.Turns.{bare, indexOf, entryOf, mirrored, plain, exchanged, rounded, numbersAt, quarters, turnAt, turnOf, wordsOf}
+use Rattle.turn.specs.Turns.{bare, indexOf, rounded, numbersAt, quarters, turnAt, turnOf, wordsOf}
 use Rattle.turn.proofs.Lookup.{turn-whole, turn-numbers}
 
 -- ---- which turns are whole quarters

@@ -2,7 +2,7 @@
 use Prim.Native.Nat.{ℕ, _<_}
 use mathlib.Core.Path.{_≡_}
 use mathlib.Core.Bool.{true, not}
-use mathlib.Core.List.{List, [], _∷_}
+use mathlib.Core.List.{[], _∷_}
 use Rattle.refusal.specs.Refusal.{_⇒_, verdict}
 use Rattle.refusal.specs.declared.Refusal.the-variants.{NotHoused}
 use Rattle.refusal.specs.declared.Verdict.{Verdict}
@@ -12,7 +12,6 @@ use Rattle.schedule.specs.Stage.{Part}
 use Rattle.turn.specs.declared.Turn.{Turn}
 use Rattle.turn.specs.declared.Turn.the-variants.{General}
 use Rattle.turn.specs.declared.Turned.{Turned}
-use Rattle.turn.specs.House.{cosines, sines}
 use Rattle.turn.specs.Turns.{+0, housed, turnOf}
 
 -- t of L parts of a circle
@@ -35,11 +34,6 @@ turned t L = record { verdict = turnVerdict L; turn = given (turnVerdict L) (tur
 -- what `turn_of` promises of its answer
 pub record Turns (t L : ℕ) (r : Turned) : Type 0 where
   pub answer : r ≡ turned t L
-
--- two lists are the house table
-pub record House (cs ss : List ℕ) : Type 0 where
-  pub cos : cs ≡ cosines
-  pub sin : ss ≡ sines
 
 -- what a lookup asks of t and L
 pub record Known (t L : ℕ) : Type 0 where

@@ -1,14 +1,14 @@
 -- turn(t, L), which is (cos, -sin) of t/L of a circle, from the house table: index, quarter and rest, mirror, whole quarters, rounding.
 -- Assumes nothing.
-use Prim.Native.Nat.{ℕ, zero, suc, _-_, _*_, _/_, _%_, _^_}
+use Prim.Native.Nat.{ℕ, zero, suc, _*_, _/_, _%_, _^_}
 use mathlib.Core.Bool.{Bool, true, false, cond}
-use lib.Dec.{eqb, ltb}
+use lib.Dec.{eqb}
 use lib.Ieee.{Float, binary32, round, ofBits, neg}
 use Rattle.schedule.specs.Stage.{Part}
+use Rattle.house.specs.Rule.{cosine, sine}
+use Rattle.house.specs.Entries.{entryOf}
 use Rattle.turn.specs.declared.Turn.{Turn}
 use Rattle.turn.specs.declared.Turn.the-variants.{Zero, Quarter, Half, ThreeQuarter, General}
-use Rattle.turn.specs.declared.inner.lookup.Entry.{Entry}
-use Rattle.turn.specs.Rule.{cosine, sine}
 
 -- L divides 6,720; 0 does not
 unfoldable pub housed : ℕ → Bool
@@ -17,23 +17,6 @@ housed L = eqb (6720 % L) 0
 -- t * 6,720 / L modulo 6,720
 unfoldable pub indexOf : Part → ℕ
 indexOf a = a .t * 6720 / a .L % 6720
-
--- ---- unrounded: cosine and sine of an index, times 2 ^ 60, but for its whole quarters
-
--- entry b of the table after q quarters, or with cosine and sine exchanged
-unfoldable pub plain : (q b : ℕ) → Entry
-plain q b = record { quarter = q; cosine = cosine b; sine = sine b }
-
-unfoldable pub exchanged : (q b : ℕ) → Entry
-exchanged q b = record { quarter = q; cosine = sine b; sine = cosine b }
-
--- q quarters and a rest b below 1,680: above 840 it takes (s, c) of 1,680 - b
-unfoldable pub mirrored : (q b : ℕ) → Entry
-mirrored q b = cond (ltb 840 b) (exchanged q (1680 - b)) (plain q b)
-
--- an index is a quarter number and a rest
-unfoldable pub entryOf : ℕ → Entry
-entryOf index = mirrored (index / 1680) (index % 1680)
 
 -- ---- rounded
 

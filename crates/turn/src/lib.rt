@@ -1,10 +1,10 @@
 // A turn, (cos, -sin) of t/L of a circle, from the house table.
 pub mod inner;
 
+use house::inner::table::cosines;
+use house::inner::table::sines;
 use inner::lookup::is_housed;
 use inner::lookup::looked;
-use inner::table::cosines;
-use inner::table::sines;
 use refusal::Refusal;
 use refusal::Verdict;
 ghost use Rattle.turn.specs.Calls.{Turns};

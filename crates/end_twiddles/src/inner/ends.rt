@@ -6,7 +6,7 @@ use turn::inner::words::Words;
 use turn::inner::words::words_of;
 ghost use mathlib.Core.Path.{_≡_};
 ghost use lib.ListN.{length};
-ghost use Rattle.turn.specs.Calls.{House};
+ghost use Rattle.house.specs.Entries.{House};
 ghost use Rattle.end_twiddles.specs.Ends.{directed as directedOf, endWords};
 ghost use Rattle.end_twiddles.specs.Parts.{Endable};
 

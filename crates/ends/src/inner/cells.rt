@@ -1,19 +1,20 @@
 // The steps at both ends, from one slice to another of h + 1 cells.
-use crate::inner::steps::centre;
-use crate::inner::steps::far;
-use crate::inner::steps::first;
-use crate::inner::steps::last;
-use crate::inner::steps::near;
 use floats::complex::Complex;
 use floats::inner::cells::get;
 use floats::inner::cells::put;
 use floats::inner::words::paste;
+use mixing::inner::steps::centre;
+use mixing::inner::steps::far;
+use mixing::inner::steps::first;
+use mixing::inner::steps::last;
+use mixing::inner::steps::near;
 ghost use mathlib.Core.Path.{_≡_};
 ghost use lib.ListN.{length};
 ghost use Rattle.ends.specs.Ends.{ended, postprocess-fft};
 ghost use Prim.Native.Nat.{_+_, _*_, _≤_, _<_};
 ghost use Rattle.floats.specs.Complexes.{cell, putCell};
-ghost use Rattle.ends.specs.Parts.{stepsOf, prepared, Endable, EndsAs, Batchable, Batched, Stepped};
+ghost use Rattle.mixing.specs.Parts.{stepsOf};
+ghost use Rattle.ends.specs.Parts.{prepared, Endable, EndsAs, Batchable, Batched, Stepped};
 
 // Two cells, written.
 fn put_both(cells: &mut [f32], i: usize, j: usize, y: Complex, z: Complex)

@@ -8,7 +8,7 @@ ghost use Prim.Native.Nat.{ℕ, _+_, _*_, _≤_};
 ghost use lib.ListN.{length, getD};
 ghost use Rattle.floats.specs.Complexes.{blank};
 ghost use Rattle.kernel.specs.Parts.{outputOf, Sized};
-ghost use Rattle.lanes.specs.Parts.{Wrote, Done};
+ghost use Rattle.storing.specs.Parts.{Wrote, Done};
 
 // The first r outputs to the cells from `at` on.
 fn spread(o: [Complex; 8], dst: &mut [f32], at: usize, r: usize)

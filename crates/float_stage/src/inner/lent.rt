@@ -9,7 +9,8 @@ ghost use lib.ListN.{length, drop};
 ghost use Rattle.packing.specs.Places.{isWidth};
 ghost use Rattle.floats.specs.Complexes.{cell};
 ghost use Rattle.kernel.specs.Floats.{lentAt};
-ghost use Rattle.lanes.specs.Parts.{Fetched, Wrote};
+ghost use Rattle.lanes.specs.Parts.{Fetched};
+ghost use Rattle.storing.specs.Parts.{Wrote};
 ghost use Rattle.float_stage.specs.Parts.{Lending};
 ghost use Rattle.float_stage.specs.declared.inner.lent.Layout.the-variants.{Beside, Apart};
 

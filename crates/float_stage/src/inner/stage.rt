@@ -7,13 +7,13 @@ use crate::inner::lent::laid_out;
 use crate::inner::lent::lent;
 use counts::inner::stages::stride;
 use lanes::inner::fours::lanes4;
-use lanes::inner::fours::store4;
-use lanes::inner::lanes::Place;
-use lanes::inner::lanes::evenly;
 use lanes::inner::lanes::lanes;
-use lanes::inner::lanes::least;
-use lanes::inner::lanes::store;
 use plan::Record;
+use storing::inner::fours::store4;
+use storing::inner::storing::Place;
+use storing::inner::storing::evenly;
+use storing::inner::storing::least;
+use storing::inner::storing::store;
 ghost use mathlib.Core.Path.{_≡_};
 ghost use mathlib.Core.Bool.{true, false};
 ghost use Prim.Native.Nat.{ℕ, _-_, _*_, _/_, _%_, _<_, _≤_};
@@ -22,7 +22,7 @@ ghost use Rattle.packing.specs.Places.{isWidth};
 ghost use Rattle.floats.specs.declared.complex.Complex.{Complex};
 ghost use Rattle.kernel.specs.Floats.{lentAt, stageOf};
 ghost use Rattle.kernel.specs.Parts.{outputOf, Sized};
-ghost use Rattle.lanes.specs.Parts.{Done, Blocks, Batch, Even, Placed};
+ghost use Rattle.storing.specs.Parts.{Done, Blocks, Batch, Even, Placed};
 ghost use Rattle.float_stage.specs.Parts.{Lending, Workable};
 
 // The first stage of radix r, of m iterations.

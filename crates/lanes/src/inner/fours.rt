@@ -1,16 +1,13 @@
 // Four iterations of a later stage at a time, in the lanes, whose twiddles stand as packed for width 4. The code is that of lanes.rt but for
 // where the twiddles stand: the compiler makes vectors only of a function that has one caller.
-use crate::inner::lanes::Next;
-use crate::inner::lanes::Place;
 use crate::inner::lanes::save;
-use crate::inner::lanes::step;
 use kernel::inner::kernel::cells;
 ghost use mathlib.Core.Bool.{false};
 ghost use Prim.Native.Nat.{ℕ, _+_, _-_, _*_, _<_, _≤_};
 ghost use lib.ListN.{length};
 ghost use Rattle.floats.specs.declared.complex.Complex.{Complex};
 ghost use Rattle.kernel.specs.Parts.{outputOf, Sized};
-ghost use Rattle.lanes.specs.Parts.{Fetched4, Done, Pairs, Paired, Stored, Evenly, Placed};
+ghost use Rattle.lanes.specs.Parts.{Fetched4, Pairs, Paired};
 
 // Four iterations from i on at most, to the lanes, each radix of a later stage written out.
 pub fn lanes4(
@@ -40,29 +37,4 @@ pub fn lanes4(
         }
         j += 1;
     }
-}
-
-// The outputs of the len iterations from i on, from the lanes to their cells, some of one block at a time; and the place of the next.
-pub fn store4<'a>(
-    ra: &'a [f32],
-    ia: &'a [f32],
-    rb: &'a [f32],
-    ib: &'a [f32],
-    dst: &mut [f32],
-    from: Place,
-    i: usize,
-    m: usize,
-    len: usize,
-    s: usize,
-    r: usize,
-    even: usize,
-) -> Place
-    requires { ⌜ Stored i m len s r (length (now dst)) × Evenly even len s × Placed even i s r (from .block) (from .col) × Pairs (now ra) (now ia) (now rb) (now ib) ⌝ }
-    ensures { λ q. ⌜ Placed even (i + len) s r (q .block) (q .col) × ((v : ℕ → ℕ → Complex) → Paired i len r v (now (ra .entry)) (now (ia .entry)) (now (rb .entry)) (now (ib .entry)) → Done s r v (now (dst .entry)) i → Done s r v (now (dst .exit)) (i + len)) ⌝ }
-{
-    let mut next = Next { at: from, j: 0 };
-    while next.j < len {
-        next = step(ra, ia, rb, ib, dst, next.at, i, next.j, m, len, s, r, even);
-    }
-    next.at
 }

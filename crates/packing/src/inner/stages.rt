@@ -9,7 +9,7 @@ ghost use mathlib.Core.Path.{_≡_};
 ghost use Prim.Native.Nat.{ℕ, _*_};
 ghost use lib.ListN.{length};
 ghost use Rattle.schedule.specs.Plans.{inUse};
-ghost use Rattle.turn.specs.Calls.{House};
+ghost use Rattle.house.specs.Entries.{House};
 ghost use Rattle.packing.specs.Places.{inLanes, packed};
 ghost use Rattle.packing.specs.Twiddles.{twiddle, stagesWords};
 ghost use Rattle.packing.specs.Parts.{Laned, Lanes, Turnable, Turned, Shape, Packable};

@@ -2,7 +2,7 @@
 use Rattle.sequences.proofs.Basics.{sym, ap, _∙_, ℕ, arith, take, length-take, length-take-le, needs}
 use Rattle.refusal.specs.declared.Verdict.{Verdict}
 use Rattle.plan.specs.Record.{planned}
-use Rattle.plan_text.specs.Tokens.{radices}
+use Rattle.tokens.specs.Tokens.{radices}
 use Rattle.plan_text.specs.Report.{linesBy, linesOf}
 use Rattle.plan_text.proofs.Plans.{planned-ok, take-least, reported}
 use Rattle.plan_text.proofs.report as fn

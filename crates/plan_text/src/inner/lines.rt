@@ -1,23 +1,23 @@
 // The lines that tell of a plan or of a refusal.
-use crate::Text;
-use crate::inner::text::empty;
-use crate::inner::text::with_byte;
-use crate::inner::text::with_bytes;
-use crate::inner::text::with_number;
-use crate::inner::text::with_radix;
 use counts::Buffer;
 use merging::Merges;
 use plan::Record;
 use refusal::Refusal;
+use text::Text;
+use text::inner::text::empty;
+use text::inner::text::with_byte;
+use text::inner::text::with_bytes;
+use text::inner::text::with_number;
+use text::inner::text::with_radix;
 ghost use mathlib.Core.Path.{_≡_};
 ghost use mathlib.Core.Bool.{true};
 ghost use mathlib.Core.List.{[], _∷_, map};
 ghost use Prim.Native.Nat.{_+_, _*_, _≤_};
 ghost use lib.ListN.{length, take};
 ghost use Rattle.plan.specs.Record.{isPlanned};
-ghost use Rattle.plan_text.specs.Lines.{decimal, spaced, line};
+ghost use Rattle.text.specs.Lines.{decimal, spaced, line};
+ghost use Rattle.text.specs.Growing.{lineOf, Adds, Holds};
 ghost use Rattle.plan_text.specs.Report.{factorWords, bufferName, planLines, refusalLine};
-ghost use Rattle.plan_text.specs.Growing.{lineOf, Adds, Holds};
 
 // A line with a number.
 fn number_line(t: Text, name: &[u8], n: usize) -> Text

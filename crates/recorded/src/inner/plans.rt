@@ -1,7 +1,7 @@
 // The plan of a record's list, and its half list.
 use crate::inner::text::lent;
 use crate::inner::text::number;
-use merging::inner::halving::half_list;
+use halving::inner::halving::half_list;
 use plan::Record;
 use radices::Radices;
 ghost use Prim.Native.Nat.{_≤_};

@@ -3,7 +3,6 @@ use crate::inner::stages::finish;
 use crate::inner::stages::invert;
 use crate::inner::stages::prepare;
 use crate::inner::stages::stages_from;
-use counts::Buffer;
 use ends::inner::words::clear;
 use plan::Record;
 ghost use mathlib.Core.Path.{_≡_};

@@ -1,39 +1,12 @@
 // The lookup of a turn in the house table, which is lent.
 use crate::Turn;
-use crate::inner::rounding::nearest;
+use house::inner::entries::unrounded;
+use house::inner::rounding::nearest;
 ghost use mathlib.Core.Path.{_≡_};
 ghost use Prim.Native.Nat.{_<_};
-ghost use Rattle.turn.specs.Calls.{House, Known, part};
-ghost use Rattle.turn.specs.Turns.{housed, entryOf, turnAt, turnOf, quarters as quartersOf};
-
-// A quarter number, and the cosine and sine of the rest times 2^60, unrounded.
-pub struct Entry {
-    pub quarter: usize,
-    pub cosine: u64,
-    pub sine: u64,
-}
-
-// The unrounded entry at an index, in parts of 1/6,720 of a circle.
-pub fn unrounded(cosines: &[u64], sines: &[u64], index: usize) -> Entry
-    requires { ⌜ House (now cosines) (now sines) × (index < 6720) ⌝ }
-    ensures { λ r. ⌜ r ≡ entryOf index ⌝ }
-{
-    let quarter = index / 1680;
-    let b = index % 1680;
-    if b > 840 {
-        let m = 1680 - b;
-        return Entry {
-            quarter: quarter,
-            cosine: sines[m],
-            sine: cosines[m],
-        };
-    }
-    Entry {
-        quarter: quarter,
-        cosine: cosines[b],
-        sine: sines[b],
-    }
-}
+ghost use Rattle.house.specs.Entries.{House};
+ghost use Rattle.turn.specs.Calls.{Known, part};
+ghost use Rattle.turn.specs.Turns.{housed, turnAt, turnOf, quarters as quartersOf};
 
 // Whether l divides 6,720, so that the table has its turns.
 pub fn is_housed(l: usize) -> bool

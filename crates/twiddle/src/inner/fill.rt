@@ -2,11 +2,11 @@
 use crate::inner::check::lent;
 use end_twiddles::inner::ends::Direction;
 use end_twiddles::inner::ends::ends;
+use house::inner::table::cosines;
+use house::inner::table::sines;
 use packing::inner::stages::stages;
 use plan::Record;
 use refusal::Verdict;
-use turn::inner::table::cosines;
-use turn::inner::table::sines;
 ghost use Rattle.twiddle.specs.Calls.{Fills};
 
 // The twiddles of a plan, packed for a width; the table is made once and lent.

@@ -1,7 +1,8 @@
 -- `ends::inner::cells::batch` meets its contract. Assumes nothing.
 use Rattle.sequences.proofs.Basics.{_≡_, refl, ap, subst, _∙_, ℕ, _+_, _-_, _≤_, _<_, arith, length, needs}
 use Rattle.floats.specs.Complexes.{cell}
-use Rattle.ends.specs.Parts.{stepsOf, Batched}
+use Rattle.mixing.specs.Parts.{stepsOf}
+use Rattle.ends.specs.Parts.{Batched}
 use Rattle.ends.proofs.Batches.{batched-none, batched-next}
 use Rattle.ends.proofs.inner.cells.batch as fn
 

@@ -1,7 +1,8 @@
 -- `ends::inner::cells::end` meets its contract. Assumes nothing.
 use Rattle.sequences.proofs.Basics.{ap, _∙_, arith, needs}
 use Rattle.floats.specs.declared.complex.Complex.{Complex}
-use Rattle.ends.specs.Parts.{stepsOf, Stepped}
+use Rattle.mixing.specs.Parts.{stepsOf}
+use Rattle.ends.specs.Parts.{Stepped}
 use Rattle.ends.proofs.Cells.{stepped-first, stepped-centre, stepped-all}
 use Rattle.ends.proofs.inner.cells.end as fn
 

@@ -1,6 +1,7 @@
 -- `ends::inner::cells::pairs` meets its contract. Assumes nothing.
 use Rattle.sequences.proofs.Basics.{_≡_, refl, _∙_, _+_, _-_, _/_, _≤_, _<_, arith, ⊎-elim, length, needs}
-use Rattle.ends.specs.Parts.{stepsOf, Stepped}
+use Rattle.mixing.specs.Parts.{stepsOf}
+use Rattle.ends.specs.Parts.{Stepped}
 use Rattle.ends.proofs.inner.cells.pairs as fn
 
 abbrev Inv-loop : fn.Tie.InvT-loop

@@ -1,8 +1,8 @@
 -- `ends::inner::cells::preprocess_ifft` meets its contract. Assumes nothing.
 use Rattle.sequences.proofs.Basics.{ap, arith, needs}
 use Rattle.floats.specs.Complexes.{cell}
-use Rattle.ends.specs.Ends.{ifftSteps}
-use Rattle.ends.specs.Parts.{conjugating}
+use Rattle.mixing.specs.Steps.{ifftSteps}
+use Rattle.mixing.specs.Parts.{conjugating}
 use Rattle.ends.proofs.inner.cells.preprocess_ifft as fn
 
 end-requires : fn.Tie.Need-end-requires

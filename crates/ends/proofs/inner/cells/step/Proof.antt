@@ -2,7 +2,7 @@
 use Rattle.sequences.proofs.Basics.{_≡_, sym, ap, _∙_, _+_, _-_, _*_, arith, List, length, take, drop, length-take-le, needs}
 use lib.Ieee.{Float}
 use Rattle.sequences.specs.Lists.{pasted}
-use Rattle.ends.specs.Parts.{stepsOf}
+use Rattle.mixing.specs.Parts.{stepsOf}
 use Rattle.floats.proofs.Flat.{cell-take}
 use Rattle.ends.proofs.Batches.{end-length, end-cell, stepped-batch}
 use Rattle.ends.proofs.inner.cells.step as fn

@@ -4,7 +4,7 @@ use Rattle.radices.specs.Lists.{isRadix}
 use Rattle.floats.specs.declared.complex.Complex.{Complex}
 use Rattle.floats.specs.Complexes.{blank}
 use Rattle.kernel.specs.Parts.{outputOf}
-use Rattle.lanes.specs.Parts.{Wrote, Done}
+use Rattle.storing.specs.Parts.{Wrote, Done}
 use Rattle.float_stage.proofs.First.{first-step, other, first-asks, room-at, first-arm}
 use Rattle.float_stage.proofs.inner.first.first as fn
 

@@ -1,8 +1,8 @@
 -- `float_stage::inner::first::spread` meets its contract. Assumes nothing.
 use Rattle.sequences.proofs.Basics.{_≡_, refl, _+_, _-_, _*_, _≤_, _<_, arith, getD, length, needs}
 use Rattle.floats.specs.Complexes.{blank}
-use Rattle.lanes.specs.Parts.{Wrote}
-use Rattle.lanes.proofs.Writes.{wrote-none, wrote-step, wrote-all}
+use Rattle.storing.specs.Parts.{Wrote}
+use Rattle.storing.proofs.Writes.{wrote-none, wrote-step, wrote-all}
 use Rattle.float_stage.proofs.inner.first.spread as fn
 
 abbrev Inv-loop : fn.Tie.InvT-loop

@@ -1,7 +1,7 @@
 -- `float_stage::inner::lent::fetch_one` meets its contract. Assumes nothing.
 use Rattle.sequences.proofs.Basics.{sym, ap, _+_, _-_, _*_, _%_, _≤_, mul-le-mul-right, arith, needs}
 use Rattle.floats.specs.Complexes.{cell}
-use Rattle.lanes.proofs.Writes.{wrote-as}
+use Rattle.storing.proofs.Writes.{wrote-as}
 use Rattle.packing.proofs.Places.{place-lt, place-in, place-past}
 use Rattle.float_stage.proofs.Widths.{small-past, small-lane}
 use Rattle.float_stage.proofs.inner.lent.fetch_one as fn

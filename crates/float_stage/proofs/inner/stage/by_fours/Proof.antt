@@ -2,8 +2,9 @@
 use Rattle.sequences.proofs.Basics.{_≡_, refl, _+_, _-_, _*_, _%_, _≤_, arith, false, length, needs}
 use Rattle.kernel.specs.Floats.{lentAt}
 use Rattle.kernel.specs.Parts.{outputOf}
-use Rattle.lanes.specs.Parts.{Even, Fetched4}
-use Rattle.lanes.proofs.Batches.{even-fours, even-none}
+use Rattle.lanes.specs.Parts.{Fetched4}
+use Rattle.storing.specs.Parts.{Even}
+use Rattle.storing.proofs.Batches.{even-fours, even-none}
 use Rattle.float_stage.proofs.Widths.{past-room, four-part}
 use Rattle.float_stage.proofs.Rounds.{placed-first, Round, round-asks, round-next}
 use Rattle.float_stage.proofs.inner.stage.by_fours as fn

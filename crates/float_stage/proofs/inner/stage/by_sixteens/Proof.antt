@@ -2,7 +2,8 @@
 use Rattle.sequences.proofs.Basics.{_≡_, refl, sym, _∙_, _+_, _-_, _*_, _/_, _≤_, _<_, arith, false, length, needs}
 use Rattle.kernel.specs.Floats.{lentAt}
 use Rattle.kernel.specs.Parts.{outputOf}
-use Rattle.lanes.specs.Parts.{Even, Fetched}
+use Rattle.lanes.specs.Parts.{Fetched}
+use Rattle.storing.specs.Parts.{Even}
 use Rattle.float_stage.proofs.Widths.{past-room, lent-part}
 use Rattle.float_stage.proofs.Rounds.{even-batch, Round, round-asks, round-next}
 use Rattle.float_stage.proofs.inner.stage.by_sixteens as fn

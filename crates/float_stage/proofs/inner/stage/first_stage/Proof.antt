@@ -2,7 +2,7 @@
 use Rattle.sequences.proofs.Basics.{_≡_, refl, _∙_, ℕ, _-_, _≤_, _<_, arith, true, length, needs}
 use Rattle.floats.specs.declared.complex.Complex.{Complex}
 use Rattle.kernel.specs.Parts.{outputOf}
-use Rattle.lanes.specs.Parts.{Done}
+use Rattle.storing.specs.Parts.{Done}
 use Rattle.float_stage.proofs.inner.stage.first_stage as fn
 
 abbrev Inv-loop : fn.Tie.InvT-loop

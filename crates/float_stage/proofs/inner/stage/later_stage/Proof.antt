@@ -2,8 +2,8 @@
 use Rattle.sequences.proofs.Basics.{_≡_, ap, _∙_, arith, false, ⊎-elim, length, needs}
 use Rattle.kernel.specs.Floats.{lentAt}
 use Rattle.kernel.specs.Parts.{outputOf}
-use Rattle.lanes.specs.Parts.{Done, Placed}
-use Rattle.lanes.proofs.Batches.{even-fours}
+use Rattle.storing.specs.Parts.{Done, Placed}
+use Rattle.storing.proofs.Batches.{even-fours}
 use Rattle.float_stage.proofs.Rounds.{placed-first, whole-fours, from-fours}
 use Rattle.float_stage.proofs.inner.stage.later_stage as fn
 

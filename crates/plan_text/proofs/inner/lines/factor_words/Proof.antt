@@ -1,8 +1,9 @@
 -- `factor_words` adds a dash for no radices, and else the radices. Assumes nothing.
 use Rattle.sequences.proofs.Basics.{sym, ap, ℕ, arith, lit≤, take, needs}
-use Rattle.plan_text.specs.Lines.{spaced}
+use Rattle.text.specs.Lines.{spaced}
+use Rattle.text.proofs.Growing.{said}
 use Rattle.plan_text.specs.Report.{factorWords}
-use Rattle.plan_text.proofs.Growing.{said, some-factors}
+use Rattle.plan_text.proofs.Plans.{some-factors}
 use Rattle.plan_text.proofs.inner.lines.factor_words as fn
 
 returns : fn.Tie.Need-returns

@@ -1,6 +1,6 @@
 -- `factors_line` adds the name, the words and the line end. Assumes nothing.
 use Rattle.sequences.proofs.Basics.{refl, lit≤, needs}
-use Rattle.plan_text.proofs.Growing.{then, said}
+use Rattle.text.proofs.Growing.{then, said}
 use Rattle.plan_text.proofs.inner.lines.factors_line as fn
 
 pub factors-line-spec : {M : Type 1} → fn.Statement.statement M

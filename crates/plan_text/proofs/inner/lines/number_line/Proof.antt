@@ -1,6 +1,6 @@
 -- `number_line` adds a name, a number and the line end. Assumes nothing.
 use Rattle.sequences.proofs.Basics.{refl, arith, needs}
-use Rattle.plan_text.proofs.Growing.{then, said}
+use Rattle.text.proofs.Growing.{then, said}
 use Rattle.plan_text.proofs.inner.lines.number_line as fn
 
 pub number-line-spec : {M : Type 1} → fn.Statement.statement M

@@ -2,9 +2,9 @@
 use Rattle.sequences.proofs.Basics.{ap, _∙_, ℕ, arith, List, [], _∷_, _++_, lit≤, take, needs}
 use Rattle.counts.specs.Counts.{twiddleStart, endCount, resultIn}
 use Rattle.counts.specs.declared.Buffer.{Buffer}
-use Rattle.plan_text.specs.Lines.{decimal, line}
+use Rattle.text.specs.Lines.{decimal, line}
+use Rattle.text.proofs.Growing.{then, said, holds}
 use Rattle.plan_text.specs.Report.{factorWords, bufferName, planLines}
-use Rattle.plan_text.proofs.Growing.{then, said, holds}
 use Rattle.plan_text.proofs.Plans.{planned-count, count-of, buffer-of}
 use Rattle.plan_text.proofs.inner.lines.plan_lines as fn
 

@@ -1,9 +1,9 @@
 -- `result_line` adds the line of either buffer. Assumes nothing.
 use Rattle.sequences.proofs.Basics.{sym, ap, [], _∷_, lit≤, needs}
 use Rattle.counts.specs.declared.Buffer.{Buffer}
-use Rattle.plan_text.specs.Lines.{line}
+use Rattle.text.specs.Lines.{line}
+use Rattle.text.proofs.Growing.{said}
 use Rattle.plan_text.specs.Report.{bufferName}
-use Rattle.plan_text.proofs.Growing.{said}
 use Rattle.plan_text.proofs.inner.lines.result_line as fn
 
 pub result-line-spec : {M : Type 1} → fn.Statement.statement M

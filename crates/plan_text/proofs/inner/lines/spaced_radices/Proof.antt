@@ -1,8 +1,8 @@
 -- `spaced_radices` adds the radices in turn. The invariant: those passed are added. Assumes nothing.
 use Rattle.sequences.proofs.Basics.{_≡_, refl, ap, ℕ, _≤_, _*_, _-_, arith, map, take, needs}
-use Rattle.plan_text.specs.Lines.{decimal, spaced}
-use Rattle.plan_text.specs.Growing.{Adds}
-use Rattle.plan_text.proofs.Growing.{then, said, spaced-next}
+use Rattle.text.specs.Lines.{decimal, spaced}
+use Rattle.text.specs.Growing.{Adds}
+use Rattle.text.proofs.Growing.{then, said, spaced-next}
 use Rattle.plan_text.proofs.inner.lines.spaced_radices as fn
 
 abbrev Inv-loop : fn.Tie.InvT-loop

@@ -1,7 +1,7 @@
 -- `transform::inner::stages::finish` meets its contract. Assumes nothing.
 use Rattle.sequences.proofs.Basics.{ap, _∙_, arith, length, needs}
 use Rattle.ends.specs.Ends.{postprocess-fft}
-use Rattle.transform.proofs.Scratch.{part-long}
+use Rattle.scratch.proofs.Scratch.{part-long}
 use Rattle.transform.proofs.inner.stages.finish as fn
 
 returns : fn.Tie.Need-returns

@@ -1,6 +1,6 @@
 -- `transform::inner::stages::invert` meets its contract. Assumes nothing.
 use Rattle.sequences.proofs.Basics.{sym, _∙_, arith, length-take-le, needs}
-use Rattle.transform.proofs.Scratch.{front-room}
+use Rattle.scratch.proofs.Scratch.{front-room}
 use Rattle.plan.proofs.Bounds.{plan-half}
 use Rattle.transform.proofs.Transforms.{from-data, from-pad}
 use Rattle.transform.proofs.inner.stages.invert as fn

@@ -2,8 +2,8 @@
 use Rattle.sequences.proofs.Basics.{sym, ap, _∙_, List, needs}
 use lib.Ieee.{Float}
 use Rattle.schedule.specs.Buffers.{heldIn}
-use Rattle.transform.specs.Transforms.{dataOf}
-use Rattle.transform.proofs.Scratch.{data-length, pad-part}
+use Rattle.scratch.specs.Scratch.{dataOf}
+use Rattle.scratch.proofs.Scratch.{data-length, pad-part}
 use Rattle.transform.proofs.inner.stages.part as fn
 
 pub part-spec : {M : Type 1} → fn.Statement.statement M

@@ -1,6 +1,7 @@
 -- `transform::inner::stages::stages_from` meets its contract. Assumes nothing.
 use Rattle.sequences.proofs.Basics.{sym, _∙_, arith, length-take-le, needs}
-use Rattle.transform.proofs.Scratch.{front-room, stages-made, stages-none}
+use Rattle.scratch.proofs.Scratch.{front-room}
+use Rattle.transform.proofs.Stages.{stages-made, stages-none}
 use Rattle.transform.proofs.inner.stages.stages_from as fn
 
 all-from-requires : fn.Tie.Need-all-from-requires

@@ -1,8 +1,9 @@
 -- `turn::inner::lookup::at` meets its contract. Assumes nothing.
 use Rattle.sequences.proofs.Basics.{_≡_, refl, sym, ap, _∙_, subst, ℕ, arith, needs}
+use Rattle.house.proofs.Rule.{Some}
+use Rattle.house.proofs.Entries.{Both, entry-fits}
 use Rattle.turn.specs.Turns.{turnAt}
-use Rattle.turn.proofs.Rule.{Some}
-use Rattle.turn.proofs.Lookup.{Both, signed, signed-three, entry-fits, turn-whole, turn-general}
+use Rattle.turn.proofs.Lookup.{signed, signed-three, turn-whole, turn-general}
 use Rattle.turn.proofs.inner.lookup.at as fn
 
 fit : (c : fn.Tie.After-unrounded) → Both Some (c .unrounded .result)

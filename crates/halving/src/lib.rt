@@ -1,0 +1,2 @@
+// The half list of a list of radices.
+pub mod inner;

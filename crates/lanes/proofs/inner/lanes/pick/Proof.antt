@@ -1,7 +1,0 @@
--- `lanes::inner::lanes::pick` meets its contract. Assumes nothing.
-use Rattle.sequences.proofs.Basics.{refl, arith}
-use Rattle.lanes.proofs.inner.lanes.pick as fn
-
-pub pick-spec : {M : Type 1} → fn.Statement.statement M
-pick-spec = fn.Tie.close (fn.Tie.spec (λ c. (λ l. refl, λ l. absurd (omega (arith, c .if1 .taken))))
-    (λ c. (λ l. absurd (omega (arith, c .if1 .left)), λ l. refl)))

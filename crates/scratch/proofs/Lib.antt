@@ -1,0 +1,2 @@
+-- The laws that the proofs share, by subject.
+pub mod Scratch

@@ -1,0 +1,2 @@
+// Outputs of iterations in lanes on their way to their cells.
+pub mod inner;
