@@ -66,7 +66,7 @@ module _ (p : Record) (W : ℕ) (lent : Slices) (v : Verdict) (tw : Slices) (fil
   told = circled Forward p W lent v tw fills filled
 
   asked : Forwardable p W (length xs) (length (before .0)) (length (before .1)) (length (tw .0)) (length (tw .1))
-  asked = forwardable p W _ _ (length xs) (length (before .0)) (length (before .1)) 32 xs (tw .0) (tw .1) r refl refl (f .answer) e
+  asked = forwardable p W xs (length (before .0)) (length (before .1)) (tw .0) (tw .1) r (f .answer) e
 
   pub samples-long : length xs ≡ 2 * p .half
   samples-long = asked .samples ∙ told .twice

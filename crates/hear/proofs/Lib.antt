@@ -1,0 +1,3 @@
+-- The laws that the proofs share, by subject.
+pub mod Verdicts
+pub mod Unique
