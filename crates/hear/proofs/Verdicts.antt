@@ -38,7 +38,7 @@ module _ (p : Record) (W : ℕ) (stage end xs : List Float) (lo hi : ℕ) (thres
   made = forwardOf p W stage end xs (before .1)
 
   -- what an accepted call tells
-  hear-told : (v : Verdict) → v ≡ told → v ≡ Accepted
+  pub hear-told : (v : Verdict) → v ≡ told → v ≡ Accepted
       → (forwardVerdict p W xs (length (before .0)) (length (before .1)) stage end ≡ Accepted) × (lo ≤ hi) × (hi ≤ p .half)
   unfolding hearVerdict
   hear-told v t e = band-told _ (p .half) lo hi (sym t ∙ e)
