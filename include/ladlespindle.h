@@ -35,6 +35,13 @@
 extern "C" {
 #endif
 
+/* The version, 10000 * major + 100 * minor + patch, and the number of the interface, which goes up whenever a struct, a signature or the
+ * meaning of an answer changes. A host that was compiled with this header links a library whose ladlespindle_interface() is the same. */
+#define LADLESPINDLE_VERSION 1000
+#define LADLESPINDLE_INTERFACE 1
+uint32_t ladlespindle_version(void);
+uint32_t ladlespindle_interface(void);
+
 /* Why a call is refused. A place is 0 unless the line names one. */
 enum ladlespindle_refusal {
     LADLESPINDLE_ACCEPTED = 0,
@@ -62,6 +69,13 @@ typedef struct {
     size_t count;
     uint8_t radices[13];
 } ladlespindle_record;
+
+/* What planning answers: the refusal, or the plan; every number of the plan is 0 on a refusal. */
+typedef struct {
+    uint32_t number;
+    size_t place;
+    ladlespindle_record plan;
+} ladlespindle_planned;
 
 /* A list of radices, unused entries 0. */
 typedef struct {
@@ -108,7 +122,24 @@ typedef struct {
     float power;
 } ladlespindle_summed;
 
-/* The plan of a list.
+/* What a block of samples says of the bees. An answer of zeros brakes. */
+enum ladlespindle_decision {
+    LADLESPINDLE_FANNING = 0, /* the power of the band is not below the threshold, or the call is refused */
+    LADLESPINDLE_QUIET = 1    /* the call is accepted, and the power of the band is below the threshold */
+};
+
+/* The same of a block that is heard, with the power of the band, +0 on a refusal, and the decision, LADLESPINDLE_FANNING on a refusal. */
+typedef struct {
+    uint32_t number;
+    size_t place;
+    float power;
+    uint32_t decision;
+} ladlespindle_heard;
+
+/* The plan of a list, with the number and place of its refusal (1, 2, 3 or 4, in this order of tests). */
+ladlespindle_planned ladlespindle_plan_list(const uint8_t *list, size_t length);
+
+/* The plan alone.
  * On a refusal every number of it is 0. */
 ladlespindle_record ladlespindle_plan(const uint8_t *list, size_t length);
 
@@ -208,6 +239,14 @@ ladlespindle_answer ladlespindle_inverse(ladlespindle_record plan, size_t width,
  * Refused, in this order, with 8 (place 0: the length is odd, below 4 or above 8,194), 14 (lo above hi, or hi no bin) and 9 (a
  * number of the spectrum, asked for or not, above 2^48 in magnitude or not finite). */
 ladlespindle_summed ladlespindle_power(const float *spectrum, size_t length, size_t lo, size_t hi);
+
+/* Whether the bees fan: the spectrum of n samples as by ladlespindle_forward, and the power of its bins lo to hi held against a threshold.
+ * Fanning exactly when the power is not below the threshold, so a threshold that is a NaN brakes. Refused, in this order, with 5, 6, 8, 9
+ * and 10 as ladlespindle_forward is, and with 14 (lo above hi, or hi above half), all before anything is written. */
+ladlespindle_heard ladlespindle_hear(ladlespindle_record plan, size_t width, const float *input, size_t input_length, float *output,
+                                     size_t output_length, float *scratch, size_t scratch_length, const float *stage_twiddles,
+                                     size_t stage_twiddles_length, const float *end_twiddles, size_t end_twiddles_length, size_t lo, size_t hi,
+                                     float threshold);
 
 /* In remainders modulo m, from 2 to 4,294,967,295, a base w below m whose power `half` leaves 1 stands for one part of a
  * circle of `half` parts. Both functions lend two buffers of `half` numbers, below m where they are read. They refuse, in

@@ -1,5 +1,5 @@
 -- What an accepted forward call leaves, with the twiddles of an accepted filling, bin by bin against the spectrum. Assumes nothing.
-use Rattle.sequences.proofs.Basics.{_≡_, refl, sym, ap, ap₂, _∙_, subst, ℕ, zero, suc, _+_, _*_, _/_, _^_, _≤_, _<_, le-refl, le-trans, mul-le-mul-right}
+use Rattle.sequences.proofs.Basics.{_≡_, sym, ap, ap₂, _∙_, subst, ℕ, zero, suc, _+_, _*_, _/_, _^_, _≤_, _<_, le-refl, le-trans, mul-le-mul-right}
 use Rattle.sequences.proofs.Basics.{arith, List, length, getD}
 use lib.Ieee.{Float, nan, binary32, mul, ofBits}
 use Rattle.refusal.specs.declared.Verdict.{Verdict}
@@ -68,7 +68,7 @@ module _ (p : Record) (W : ℕ) (lent : Slices) (v : Verdict) (tw : Slices) (fil
   told = circled Forward p W lent v tw fills filled
 
   asked : Forwardable p W (length xs) (length (before .0)) (length (before .1)) (length (tw .0)) (length (tw .1))
-  asked = forwardable p W _ _ (length xs) (length (before .0)) (length (before .1)) 32 xs (tw .0) (tw .1) r refl refl (f .answer) e
+  asked = forwardable p W xs (length (before .0)) (length (before .1)) (tw .0) (tw .1) r (f .answer) e
 
   pub samples-long : length xs ≡ 2 * p .half
   samples-long = asked .samples ∙ told .twice

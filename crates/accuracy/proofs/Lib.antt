@@ -33,5 +33,6 @@ pub mod Power
 pub mod Calls
 pub mod Inverse
 pub mod Bands
+pub mod Compare
 pub mod Taken
 pub mod Theorems

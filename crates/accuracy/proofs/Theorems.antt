@@ -1,11 +1,12 @@
 -- What a reader opens first, about how near the spectrum is. With the twiddles of an accepted filling, every bin that an accepted forward call leaves is
 -- within a stated distance of the exact sum over the samples, taken with the house table's own numbers (`forward-accurate`); power refuses no band of
 -- such a spectrum (`power-takes-it`); a line that the samples go along is seen in what power answers over any band with its bin (`line-seen`,
--- `line-heard`); and a band whose exact bins are small is answered with little power (`quiet-stays-quiet`). Bins are counted in units of 2 ^ -149,
+-- `line-heard`); and a band whose exact bins are small is answered with little power (`quiet-stays-quiet`); so a tone of a stated size is heard
+-- (`tone-heard`), and a band that is quiet by a stated measure is not (`band-quiet`). Bins are counted in units of 2 ^ -149,
 -- exact bins in 2 ^ 60 parts of these. Assumes nothing.
 use Rattle.sequences.proofs.Basics.{_≡_, refl, sym, ap, _∙_, subst, ℕ, _+_, _-_, _*_, _/_, _%_, _^_, _≤_, _<_, le-refl, le-trans, le-of-eq, mul-le-mul}
-use Rattle.sequences.proofs.Basics.{mul-le-mul-right, add-le-add, mul-pos, le-of-mul-le-mul-right, arith, decLe, true, dite, List, [], _∷_, T, lit≤, lit<}
-use Rattle.sequences.proofs.Basics.{length, getD}
+use Rattle.sequences.proofs.Basics.{mul-le-mul-left, mul-le-mul-right, add-le-add, mul-pos, le-of-mul-le-mul-left, le-of-mul-le-mul-right, arith, decLe, true, dite, List, [], _∷_, T, lit≤, lit<}
+use Rattle.sequences.proofs.Basics.{length, getD, lt-of-le-of-lt, lt-of-not-le, lt-ltb, le-ltb}
 use lib.Ieee.{Float, nan, binary32}
 use Rattle.refusal.specs.declared.Verdict.{Verdict}
 use Rattle.refusal.specs.declared.Verdict.the-variants.{Accepted}
@@ -26,6 +27,10 @@ use Rattle.spectrum.specs.Calls.{Forwards, Inverts}
 use Rattle.power.specs.Power.{powerFrom, powerVerdict, Powers, summed}
 use Rattle.transform.specs.Transforms.{Slices}
 use Rattle.power.specs.declared.Summed.{Summed}
+use Rattle.hear.specs.Hear.{Hears}
+use Rattle.hear.specs.declared.Decision.the-variants.{Fanning, Quiet}
+use Rattle.hear.specs.declared.Heard.{Heard}
+use Rattle.hear.proofs.Theorems.{heard-band, heard-forward, heard-power, heard-fanning, heard-quiet}
 use Rattle.finite.specs.Bits.{HoldAll}
 use Rattle.finite.specs.Sizes.{Words}
 use Rattle.finite.proofs.Calls.{samples-within, bins-within}
@@ -37,6 +42,7 @@ use Rattle.accuracy.specs.Value.{Signed, NearZ, timesZ, scale, absZ, val
 use Rattle.accuracy.proofs.Bands.{seen-in, quiet-in}
 use Rattle.accuracy.proofs.Calls.{word-held, mag-small, bits-f32s, pair-disc, constant, weight-least, weight-most, error-stages, scaled, root-of-two}
 use Rattle.accuracy.proofs.Calls.{tenth, tenth-least, tenth-most, inverse-total, at-least, at-most, sixteen-sized}
+use Rattle.accuracy.proofs.Compare.{lt-units}
 use Rattle.accuracy.proofs.Complexes.{mag-abs, part-re, part-im, abs-near, near-more}
 use Rattle.accuracy.proofs.Dft.{paired}
 use Rattle.accuracy.proofs.Forward.{samples-long, bins-long, bin-near}
@@ -102,6 +108,10 @@ by-size A M D Y T pos h =
 
     order₂ : (A Y T : ℕ) → 1024 * (Y * (A * A)) * T ≡ 1024 * Y * T * (A * A)
     order₂ A Y T = omega arith
+
+-- fewer units, where each stands for Y
+fewer : (Y S T : ℕ) → 512 * (Y * S) < 512 * (Y * T) → S < T
+fewer Y S T l = lt-of-not-le (λ n. absurd (omega (arith, mul-le-mul-left Y n)))
 
 -- ---- the error of a plan's run
 
@@ -309,6 +319,77 @@ module _ (p : Record) (W : ℕ) (lent : Slices) (v : Verdict) (tw : Slices) (fil
           at-most (2 ^ 149) Y ((D + 2 ^ 203) * (D + 2 ^ 203) + 2 * Y) (hi + 1 - lo) (o .0) (lit< tt)
               (subst (λ (n : ℕ). 512 * (Y * o .0) ≤ 513 * ((hi + 1 - lo) * ((n + 2 ^ 203) * (n + 2 ^ 203) + 2 * Y))) hive-distance (o .2)) (lit≤ tt),
         )
+
+-- ---- what is heard
+
+-- an accepted hearing, lent the twiddles that an accepted filling left, by a threshold of θ units
+module _ (p : Record) (W : ℕ) (lent : Slices) (v : Verdict) (tw : Slices) (fills : Fills Forward p W lent v tw) (filled : v ≡ Accepted)
+    (xs : List Float) (lo hi : ℕ) (threshold : Float) (before : Slices) (h : Heard) (after : Slices)
+    (call : Hears p W (tw .0) (tw .1) xs lo hi threshold before h after) (e : h .verdict ≡ Accepted) (words : F32s xs)
+    (θ : ℕ) (limit : IsUnits θ threshold) where
+  ran : Forwards p W (tw .0) (tw .1) xs before Accepted after
+  ran = heard-forward p W (tw .0) (tw .1) xs lo hi threshold before h after call e
+
+  band : (lo ≤ hi) × (hi ≤ p .half)
+  band = heard-band p W (tw .0) (tw .1) xs lo hi threshold before h after call e
+
+  -- what power would answer of the spectrum that is left
+  abbrev answer : Summed
+  answer = record { verdict = Accepted; power = h .power }
+
+  summing : Powers (after .0) lo hi answer
+  summing =
+      record {
+        answer = ap (summed Accepted) (heard-power p W (tw .0) (tw .1) xs lo hi threshold before h after call e)
+            ∙ ap (λ (u : Verdict). summed u (powerFrom (after .0) lo (hi + 1 - lo)))
+            (sym (power-takes-it p W lent v tw fills filled xs before Accepted after ran refl words lo hi (band .0) (band .1)));
+      }
+
+  -- a power of θ units or more is fanning, and one of fewer is quiet
+  fans : (S : ℕ) → IsUnits S (h .power) → θ ≤ S → h .decision ≡ Fanning
+  fans S u l = heard-fanning p W (tw .0) (tw .1) xs lo hi threshold before h after call e (lt-units (h .power) threshold S θ u limit ∙ le-ltb S θ l)
+
+  rests : (S : ℕ) → IsUnits S (h .power) → S < θ → h .decision ≡ Quiet
+  rests S u l = heard-quiet p W (tw .0) (tw .1) xs lo hi threshold before h after call e (lt-units (h .power) threshold S θ u limit ∙ lt-ltb S θ l)
+
+  module _ (b : ℕ) (few : b ≤ 164) (small : Sized b xs) where
+    -- A tone at a bin of the band, along which the samples go by M beyond the distance, is heard, the threshold being at most 1023 / 1024 of M squared,
+    -- less two units.
+    pub tone-heard : (k : ℕ) → lo ≤ k → k ≤ hi → (r : Gauss) (A M : ℕ) → 0 < A → Correlates (p .half) xs k r A (A * (M + distance (p .count) (p .half) b))
+        → 1024 * (2 ^ 60 * 2 ^ 60 * 2 ^ 149) * (θ + 2) ≤ 1023 * (M * M) → h .decision ≡ Fanning
+    tone-heard k lk kh r A M pos c low =
+        let o = line-heard p W lent v tw fills filled xs before Accepted after ran refl words b few small lo hi answer summing (band .1) k lk kh r A M pos c in
+        let l : θ + 2 ≤ o .0 + 2 = le-of-mul-le-mul-left (le-trans low (o .2)) (lit< tt) in
+        fans (o .0) (o .1) (omega arith)
+
+    -- A band whose exact bins are at most M is not, the threshold being above 513 / 512 of M and the distance, squared, and two units, for each bin.
+    pub band-quiet : (M : ℕ) → ((k : ℕ) → lo ≤ k → k ≤ hi → Disc M (exactBin (p .half) xs k))
+        → 513 * ((hi + 1 - lo) * ((distance (p .count) (p .half) b + M) * (distance (p .count) (p .half) b + M) + 2 * (2 ^ 60 * 2 ^ 60 * 2 ^ 149)))
+        < 512 * (2 ^ 60 * 2 ^ 60 * 2 ^ 149 * θ)
+        → h .decision ≡ Quiet
+    band-quiet M each high =
+        let o = quiet-stays-quiet p W lent v tw fills filled xs before Accepted after ran refl words b few small lo hi answer summing (band .1) (band .0) M
+        each in
+        rests (o .0) (o .1) (fewer (2 ^ 60 * 2 ^ 60 * 2 ^ 149) (o .0) θ (lt-of-le-of-lt (o .2) high))
+
+  -- in the hive's words: 1,680 samples of 16 bits
+  module _ (size : p .n ≡ 1680) (sixteen : SixteenBit xs) where
+    hive-in : hi ≤ 840
+    hive-in = subst (λ (q : Record). hi ≤ q .half)
+        (same-plan p plan-1680 (planned p W lent v tw fills filled xs before Accepted after ran refl words) passes-1680 size) (band .1)
+
+    -- a tone of 33 / 32,768 or more, rounded to 16 bits, is heard beside anything that does not cancel it, by a threshold of at most 0.65
+    pub hive-tone-heard : (k : ℕ) → lo ≤ k → k ≤ hi → (r : Gauss) (A : ℕ) → 0 < A → Correlates 840 xs k r A (A * (840 * 2 ^ 199)) → 100 * θ ≤ 65 * 2 ^ 149
+        → h .decision ≡ Fanning
+    hive-tone-heard k lk kh r A pos c low =
+        let o = hive-heard p W lent v tw fills filled xs before Accepted after ran refl words size sixteen lo hi answer summing hive-in k lk kh r A pos c in
+        fans (o .0) (o .1) (omega (arith, le-trans low (o .2)))
+
+    -- a band whose exact bins are at most 1 / 64 is quiet, by a threshold above 1 / 1,800 for each of its bins
+    pub hive-band-quiet : ((k : ℕ) → lo ≤ k → k ≤ hi → Disc (2 ^ 203) (exactBin 840 xs k)) → (hi + 1 - lo) * 2 ^ 149 < 1800 * θ → h .decision ≡ Quiet
+    hive-band-quiet each high =
+        let o = hive-quiet p W lent v tw fills filled xs before Accepted after ran refl words size sixteen lo hi answer summing hive-in (band .0) each in
+        rests (o .0) (o .1) (omega (arith, lt-of-le-of-lt (o .2) high))
 
 -- ---- the way back
 

@@ -118,7 +118,7 @@ module _ (p : Record) (W : ℕ) (stage end xs : List Float) (before : Slices) (r
 
     pub forward-within : (k : ℕ) → k ≤ 56 → Words k xs → Within 1 p (k + 5 * p .count + 3) (k + 5 * p .count) after
     forward-within k few w =
-        let t = forwardable p W _ _ (length xs) (length (before .0)) (length (before .1)) 32 xs stage end r refl refl (f .answer) e in
+        let t = forwardable p W xs (length (before .0)) (length (before .1)) stage end r (f .answer) e in
         let ws = front-words 0 stage end (forward-scanned .1) in let we = back-words 0 stage end (forward-scanned .1) in
         let scratch = forward-scratch p W k stage end xs (before .1) (length (before .0)) t few w ws we in
         subst (Within 1 p (k + 5 * p .count + 3) (k + 5 * p .count)) (sym (settled _ _ _ _ _ f (sym (f .answer) ∙ e)))

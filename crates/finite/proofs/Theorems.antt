@@ -38,7 +38,7 @@ module _ (p : Record) (W : ℕ) (stage end xs : List Float) (before : Slices) (r
   -- forward leaves the transform of the whole numbers x
   pub forward-exact : Forwards p W stage end xs before r after → r ≡ Accepted → Short (p .n) → Samples (p .n) x xs → IsBins (p .n) x (after .0)
   forward-exact f e short g =
-      let t = forwardable p W _ _ (length xs) (length (before .0)) (length (before .1)) 32 xs stage end r refl refl (f .answer) e in
+      let t = forwardable p W xs (length (before .0)) (length (before .1)) stage end r (f .answer) e in
       subst (λ (s : Slices). IsBins (p .n) x (s .0)) (sym (settled _ _ _ _ _ f (sym (f .answer) ∙ e)))
       (forward-whole p W stage end xs (before .1) x (length (before .0)) t short g)
 

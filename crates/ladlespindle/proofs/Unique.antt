@@ -7,18 +7,33 @@ use Rattle.plan.specs.declared.Record.{Record}
 use Rattle.schedule.specs.Buffers.{Two}
 use Rattle.twiddle.specs.Calls.{Slices}
 use Rattle.ladlespindle.specs.declared.Answer.{Answer}
+use Rattle.ladlespindle.specs.declared.Heard.{Heard}
+use Rattle.ladlespindle.specs.declared.Planned.{Planned}
 use Rattle.ladlespindle.specs.declared.Summed.{Summed}
 use Rattle.ladlespindle.specs.declared.Ran.{Ran}
 use Rattle.ladlespindle.specs.declared.Scaling.{Scaling}
 use Rattle.ladlespindle.specs.declared.TurnWords.{TurnWords}
 use Rattle.ladlespindle.specs.Calls.{Gives, GivesTurn, GivesForward, GivesInverse, GivesStage, GivesSpectrum, GivesSamples, GivesPower}
-use Rattle.ladlespindle.specs.Calls.{GivesRemainderStage, GivesRemainderRun}
+use Rattle.ladlespindle.specs.Calls.{GivesHeard, GivesRemainderStage, GivesRemainderRun}
+use Rattle.ladlespindle.specs.Exports.{GivesVersion, GivesInterface, GivesPlanned}
 use Rattle.ladlespindle.specs.Exports.{GivesPlan, GivesNumber, GivesPlace, GivesLength, GivesHalf, GivesStages, GivesMerges, GivesRadix, GivesLetter}
 use Rattle.ladlespindle.specs.Exports.{GivesStageTwiddles, GivesEndTwiddles, GivesResult, GivesAcceptance, GivesScaling}
+
+-- ---- the version
+
+module _ {r s : ℕ} where
+  pub GivesVersion-one : GivesVersion r → GivesVersion s → r ≡ s
+  GivesVersion-one a b = agree (a .answer) (b .answer)
+
+  pub GivesInterface-one : GivesInterface r → GivesInterface s → r ≡ s
+  GivesInterface-one a b = agree (a .answer) (b .answer)
 
 -- ---- planning
 
 module _ (list : List ℕ) where
+  pub GivesPlanned-one : {r s : Planned} → GivesPlanned list r → GivesPlanned list s → r ≡ s
+  GivesPlanned-one a b = agree (a .answer) (b .answer)
+
   pub GivesPlan-one : {r s : Record} → GivesPlan list r → GivesPlan list s → r ≡ s
   GivesPlan-one a b = agree (a .answer) (b .answer)
 
@@ -107,3 +122,7 @@ GivesRemainderStage-one p j m w input other a b = given-one a b
 pub GivesRemainderRun-one : (p : Record) (m w : ℕ) (before : Two ℕ) {r s : Ran} {x y : Two ℕ}
     → GivesRemainderRun p m w before r x → GivesRemainderRun p m w before s y → (r ≡ s) × (x ≡ y)
 GivesRemainderRun-one p m w before a b = (agree (a .answer) (b .answer), agree (a .cells) (b .cells))
+
+pub GivesHeard-one : (p : Record) (W : ℕ) (stage end input : List Float) (lo hi : ℕ) (threshold : Float) (before : Slices) {r s : Heard} {x y : Slices}
+    → GivesHeard p W stage end input lo hi threshold before r x → GivesHeard p W stage end input lo hi threshold before s y → (r ≡ s) × (x ≡ y)
+GivesHeard-one p W stage end input lo hi threshold before a b = (agree (a .answer) (b .answer), agree (a .cells) (b .cells))

@@ -19,9 +19,12 @@ use Rattle.spectrum.specs.Calls.{forwardVerdict, inverseVerdict}
 use Rattle.power.specs.Power.{powerFrom, powerVerdict, summed}
 use Rattle.transform.specs.Transforms.{forwardOf, inverseOf, Slices as Buffers}
 use Rattle.power.specs.declared.Summed.{Summed as Sum}
+use Rattle.hear.specs.Hear.{decisionNumber, hearVerdict, heard}
+use Rattle.hear.specs.declared.Heard.{Heard as Hearing}
 use Rattle.residues.specs.Residues.{stageOf, runOf}
 use Rattle.remainder.specs.Calls.{stageVerdict, runVerdict}
 use Rattle.ladlespindle.specs.declared.Answer.{Answer}
+use Rattle.ladlespindle.specs.declared.Heard.{Heard}
 use Rattle.ladlespindle.specs.declared.Summed.{Summed}
 use Rattle.ladlespindle.specs.declared.Ran.{Ran}
 use Rattle.ladlespindle.specs.declared.TurnWords.{TurnWords}
@@ -81,6 +84,22 @@ GivesSamples p W stage end input before r after =
 -- what `ladlespindle_power` promises of its answer: the refusal as two numbers, and the sum
 pub record GivesPower (spectrum : List Float) (lo hi : ℕ) (r : Summed) : Type 0 where
   pub answer : r ≡ powered (summed (powerVerdict spectrum lo hi) (powerFrom spectrum lo (hi + 1 - lo)))
+
+-- ---- the bees
+
+-- what is heard with its verdict and its decision as numbers
+abbrev pub heardAs : (number place : ℕ) → Float → (decision : ℕ) → Heard
+heardAs n k x d = record { number = n; place = k; power = x; decision = d }
+
+abbrev pub crossedHeard : Hearing → Heard
+crossedHeard h = heardAs (numberIn (h .verdict)) (placeIn (h .verdict)) (h .power) (decisionNumber (h .decision))
+
+-- what `ladlespindle_hear` promises of its answer r and of what is left in output and scratch
+pub record GivesHeard (p : Record) (W : ℕ) (stage end input : List Float) (lo hi : ℕ) (threshold : Float) (before : Buffers) (r : Heard)
+    (after : Buffers) : Type 0 where
+  pub answer : r ≡ crossedHeard (heard (hearVerdict p W input (length (before .0)) (length (before .1)) stage end lo hi)
+      (powerFrom (forwardOf p W stage end input (before .1) .0) lo (hi + 1 - lo)) threshold)
+  pub cells : after ≡ left (hearVerdict p W input (length (before .0)) (length (before .1)) stage end lo hi) (forwardOf p W stage end input (before .1)) before
 
 -- ---- remainders
 

@@ -1,5 +1,5 @@
 -- What each exported function answers for which list. Assumes nothing.
-use Prim.Native.Nat.{ℕ, _≤_}
+use Prim.Native.Nat.{ℕ, _+_, _*_, _≤_}
 use mathlib.Core.Path.{_≡_}
 use mathlib.Core.Logic.{_↔_}
 use mathlib.Core.List.{List}
@@ -12,6 +12,7 @@ use Rattle.counts.specs.Counts.{stageTwiddles, endCount, resultIn, bufferNumber
 use Rattle.scaling.specs.Scaling.{scaled}
 use Rattle.plan.specs.declared.Record.{Record}
 use Rattle.scaling.specs.declared.Scaled.{Scaled}
+use Rattle.ladlespindle.specs.declared.Planned.{Planned}
 use Rattle.ladlespindle.specs.declared.Scaling.{Scaling}
 
 -- a number where the list is accepted, 0 where it is refused
@@ -35,6 +36,22 @@ crossed s =
       «in_list» = s .«in_list»;
       «out_list» = s .«out_list»;
     }
+
+-- what `ladlespindle_version` promises of its answer: 0.10.0
+pub record GivesVersion (r : ℕ) : Type 0 where
+  pub answer : r ≡ 10000 * 0 + 100 * 10 + 0
+
+-- what `ladlespindle_interface` promises of its answer
+pub record GivesInterface (r : ℕ) : Type 0 where
+  pub answer : r ≡ 1
+
+-- planning's answer with the refusal as two numbers
+abbrev pub plannedAs : (number place : ℕ) → Record → Planned
+plannedAs n k p = record { number = n; place = k; plan = p }
+
+-- what `ladlespindle_plan_list` promises of its answer
+pub record GivesPlanned (list : List ℕ) (r : Planned) : Type 0 where
+  pub answer : r ≡ plannedAs (numberIn (planned list .verdict)) (placeIn (planned list .verdict)) (planned list .plan)
 
 -- what `ladlespindle_plan` promises of its answer
 pub record GivesPlan (list : List ℕ) (r : Record) : Type 0 where

@@ -1,6 +1,6 @@
-// The functions that a host written in C links: planning, its refusals, counts and scaling, on lists of radices; a single turn; the
-// filling of twiddles; a stage in floats; both transforms and the power of bins; and the stages in remainders, on a plan and buffers of
-// whole numbers.
+// The functions that a host written in C links: the version; planning, its refusals, counts and scaling, on lists of radices; a single turn; the
+// filling of twiddles; a stage in floats; both transforms, the power of bins and whether the bees fan; and the stages in remainders, on a plan and
+// buffers of whole numbers.
 use counts::inner::stages::result_in;
 use plan::Record;
 use radices::Radices;
@@ -8,10 +8,18 @@ use refusal::Verdict;
 use turn::inner::words::words_of;
 ghost use mathlib.Core.Path.{_≡_};
 ghost use lib.ListN.{getD};
-ghost use Rattle.ladlespindle.specs.Exports.{GivesPlan, GivesNumber, GivesPlace, GivesLength, GivesHalf, GivesStages, GivesMerges, GivesRadix, GivesLetter, GivesStageTwiddles, GivesEndTwiddles, GivesResult, GivesAcceptance, GivesScaling};
+ghost use Rattle.ladlespindle.specs.Exports.{GivesVersion, GivesInterface, GivesPlanned, GivesPlan, GivesNumber, GivesPlace, GivesLength, GivesHalf, GivesStages, GivesMerges, GivesRadix, GivesLetter, GivesStageTwiddles, GivesEndTwiddles, GivesResult, GivesAcceptance, GivesScaling};
 ghost use Rattle.refusal.specs.Refusal.{left};
 ghost use Rattle.counts.specs.Counts.{resultIn, bufferNumber};
-ghost use Rattle.ladlespindle.specs.Calls.{GivesTurn, GivesForward, GivesInverse, GivesStage, GivesSpectrum, GivesSamples, GivesPower, GivesRemainderStage, GivesRemainderRun};
+ghost use Rattle.ladlespindle.specs.Calls.{GivesTurn, GivesForward, GivesInverse, GivesStage, GivesSpectrum, GivesSamples, GivesPower, GivesHeard, GivesRemainderStage, GivesRemainderRun};
+
+// What planning answers, with the refusal as two numbers.
+#[repr(C)]
+pub struct Planned {
+    pub number: u32,
+    pub place: usize,
+    pub plan: Record,
+}
 
 // What scaling answers, with the refusal as two numbers.
 #[repr(C)]
@@ -49,12 +57,52 @@ pub struct Summed {
     pub power: f32,
 }
 
+// The same of a block that is heard, with the power of the band, +0 on a refusal, and the decision: 0 for fanning and on a refusal, 1 for quiet.
+#[repr(C)]
+pub struct Heard {
+    pub number: u32,
+    pub place: usize,
+    pub power: f32,
+    pub decision: u32,
+}
+
 // The same of a run, with the buffer that holds the result: 0 for Data and on a refusal, 1 for Scratchpad.
 #[repr(C)]
 pub struct Ran {
     pub number: u32,
     pub place: usize,
     pub buffer: u32,
+}
+
+// The version: 10000 * major + 100 * minor + patch.
+#[no_mangle]
+pub extern "C" fn ladlespindle_version() -> u32
+    ensures { λ r. ⌜ GivesVersion r ⌝ }
+{
+    1000
+}
+
+// The number of the interface, raised whenever a struct, a signature or the meaning of an answer changes.
+#[no_mangle]
+pub extern "C" fn ladlespindle_interface() -> u32
+    ensures { λ r. ⌜ GivesInterface r ⌝ }
+{
+    1
+}
+
+// The plan of a list with its refusal, every number of the plan 0 on a refusal.
+#[no_mangle]
+pub extern "C" fn ladlespindle_plan_list(list: &[u8]) -> Planned
+    ensures { λ r. ⌜ GivesPlanned (now (list .entry)) r ⌝ }
+{
+    let planned = plan::plan(list);
+    let verdict = planned.verdict;
+    let record = planned.plan;
+    Planned {
+        number: verdict.number(),
+        place: verdict.place(),
+        plan: record,
+    }
 }
 
 // The plan of a list, every number 0 on a refusal.
@@ -335,6 +383,44 @@ pub extern "C" fn ladlespindle_power(spectrum: &[f32], lo: usize, hi: usize) -> 
         number: verdict.number(),
         place: verdict.place(),
         power: summed.power,
+    }
+}
+
+// Whether the bees fan: the spectrum of n samples, and the power of its bins lo to hi held against a threshold.
+#[no_mangle]
+pub extern "C" fn ladlespindle_hear(
+    plan: Record,
+    width: usize,
+    input: &[f32],
+    output: &mut [f32],
+    scratch: &mut [f32],
+    stage_twiddles: &[f32],
+    end_twiddles: &[f32],
+    lo: usize,
+    hi: usize,
+    threshold: f32,
+) -> Heard
+    ensures { λ r. ⌜ GivesHeard plan width (now («stage_twiddles» .entry)) (now («end_twiddles» .entry)) (now (input .entry)) lo hi threshold (now (output .entry), now (scratch .entry)) r (now (output .exit), now (scratch .exit)) ⌝ }
+{
+    let heard = hear::hear(
+        plan,
+        width,
+        input,
+        output,
+        scratch,
+        stage_twiddles,
+        end_twiddles,
+        lo,
+        hi,
+        threshold,
+    );
+    let verdict = heard.verdict;
+    let decision = heard.decision;
+    Heard {
+        number: verdict.number(),
+        place: verdict.place(),
+        power: heard.power,
+        decision: decision.number(),
     }
 }
 

@@ -11,7 +11,7 @@ use Rattle.plan.specs.declared.Record.{Record}
 use Rattle.packing.specs.Places.{isWidth}
 use Rattle.scan.specs.Scan.{fits, firstUnfit}
 use Rattle.sequences.proofs.First.{joined-first, joined-second}
-use Rattle.spectrum.specs.Calls.{binWords, lentVerdict}
+use Rattle.spectrum.specs.Calls.{binWords, lentVerdict, forwardVerdict}
 use Rattle.transform.specs.Parts.{Forwardable, Invertible}
 use Rattle.plan.proofs.Bounds.{plan-twice}
 
@@ -58,16 +58,16 @@ pub lent-taken : (p : Record) (W : ℕ) (input output : Bool) (scratch k : ℕ) 
 unfolding lentVerdict
 lent-taken p W input output scratch k xs stage end t = search accepted depth 14
 
-pub forwardable : (p : Record) (W : ℕ) (input output : Bool) (ni nw scratch k : ℕ) (xs stage end : List Float) (v : Verdict) → input ≡ eqb ni (p .n)
-    → output ≡ eqb nw (binWords p)
-    → v ≡ lentVerdict p W input output scratch k xs stage end → v ≡ Accepted → Forwardable p W ni nw scratch (length stage) (length end)
-forwardable p W input output ni nw scratch k xs stage end v ei eo told e =
-    let t = lent-taken p W input output scratch k xs stage end (sym told ∙ e) in
+pub forwardable : (p : Record) (W : ℕ) (xs : List Float) (output scratch : ℕ) (stage end : List Float) (v : Verdict)
+    → v ≡ forwardVerdict p W xs output scratch stage end
+    → v ≡ Accepted → Forwardable p W (length xs) output scratch (length stage) (length end)
+forwardable p W xs output scratch stage end v told e =
+    let t = lent-taken p W _ _ scratch 32 xs stage end (sym told ∙ e) in
     record {
       planned = t .planned;
       width = t .width;
-      samples = eqb-true ni (p .n) (sym ei ∙ t .long);
-      bins = eqb-true nw (binWords p) (sym eo ∙ t .wide);
+      samples = eqb-true (length xs) (p .n) (t .long);
+      bins = eqb-true output (binWords p) (t .wide);
       room = omega (arith, t .room, plan-twice p (t .planned));
       stages = t .stages;
       ends = t .ends;

@@ -3,6 +3,7 @@ pub mod inner;
 
 use inner::check::is_bins;
 use inner::check::lent;
+use inner::check::lent_samples;
 use plan::Record;
 use refusal::Verdict;
 use scan::inner::scan::CEILING;
@@ -21,16 +22,12 @@ pub fn forward(
 ) -> Verdict
     ensures { λ r. ⌜ Forwards plan width (now («stage_twiddles» .entry)) (now («end_twiddles» .entry)) (now (input .entry)) (now (output .entry), now (scratch .entry)) r (now (output .exit), now (scratch .exit)) ⌝ }
 {
-    let is_input = input.len() == plan.n;
-    let is_output = is_bins(output.len(), plan.half);
-    match lent(
+    match lent_samples(
         plan,
         width,
-        is_input,
-        is_output,
-        scratch.len(),
-        4294967296.0,
         input,
+        output.len(),
+        scratch.len(),
         stage_twiddles,
         end_twiddles,
     ) {

@@ -11,7 +11,7 @@ ghost use mathlib.Core.Path.{_≡_};
 ghost use Prim.Native.Nat.{ℕ, _+_, _*_};
 ghost use lib.Dec.{eqb};
 ghost use Rattle.scan.specs.Scan.{bound};
-ghost use Rattle.spectrum.specs.Calls.{sizeVerdict, numberVerdict, lentVerdict};
+ghost use Rattle.spectrum.specs.Calls.{sizeVerdict, numberVerdict, lentVerdict, forwardVerdict};
 
 // Whether so many words are those of h + 1 bins.
 pub fn is_bins(words: usize, h: usize) -> bool
@@ -107,4 +107,31 @@ pub fn lent(
         Verdict::Accepted => numbers(input, most, stage, end),
         Verdict::Refused(why) => Verdict::Refused(why),
     }
+}
+
+// The verdict of what goes forward: n samples of at most 2^32, and room for so many words.
+pub fn lent_samples(
+    plan: Record,
+    width: usize,
+    input: &[f32],
+    output: usize,
+    scratch: usize,
+    stage: &[f32],
+    end: &[f32],
+) -> Verdict
+    ensures { λ r. ⌜ r ≡ forwardVerdict plan width (now (input .entry)) output scratch (now (stage .entry)) (now (end .entry)) ⌝ }
+{
+    let is_input = input.len() == plan.n;
+    let is_output = is_bins(output, plan.half);
+    lent(
+        plan,
+        width,
+        is_input,
+        is_output,
+        scratch,
+        4294967296.0,
+        input,
+        stage,
+        end,
+    )
 }

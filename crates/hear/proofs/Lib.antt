@@ -1,0 +1,4 @@
+-- The laws that the proofs share, by subject, and the theorems; `Theorems` is the one to open first.
+pub mod Verdicts
+pub mod Unique
+pub mod Theorems
