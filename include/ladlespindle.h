@@ -10,6 +10,9 @@
  * `width` says how twiddle words are packed: 1, 2 or 4. Use 1; answers never differ. Words that are packed for one width are
  * lent with that width.
  *
+ * ladlespindle_sizes.h, which is included here, has the lengths of all buffers as constants; ladlespindle_refusals.h has a sentence for each
+ * refusal.
+ *
  * Lengths are in elements. NULL with length 0 is an empty list. Lists that are only read may overlap each other; a
  * buffer that a call writes may overlap nothing else that is lent to it. What a refused call was lent is as it was.
  * The floating-point settings must be those that a C program starts with: rounding to nearest, subnormals kept.
@@ -201,9 +204,28 @@ ladlespindle_scaling ladlespindle_scale(const uint8_t *in_list, size_t in_length
  * Refused with 7 unless l divides 6,720. */
 ladlespindle_turn_words ladlespindle_turn(uint32_t t, uint32_t l);
 
-/* The twiddles of a plan for the forward and for the inverse transform, two words each: those of the stages, packed for a
- * width of 1, 2 or 4, and those of the ends. The lengths are twice ladlespindle_stage_twiddles and twice
- * ladlespindle_end_twiddles. Both directions have the same stage words, so that one set of them serves both; the end words differ.
+/* Twiddle words, two for each twiddle. Filling serves the 48 lengths that divide 6,720:
+ *
+ *     2, 4, 6, 8, 10, 12, 14, 16, 20, 24, 28, 30, 32, 40, 42, 48, 56, 60, 64, 70, 80, 84, 96, 112, 120, 140, 160, 168, 192, 210, 224, 240, 280,
+ *     320, 336, 420, 448, 480, 560, 672, 840, 960, 1,120, 1,344, 1,680, 2,240, 3,360, 6,720
+ *
+ * and at any other the host lends words of its own: `tools/words N` writes them as a C file, and these are the rules.
+ *
+ * - The turn by t of p parts has the words re = cos(2 pi t / p) and im = -sin(2 pi t / p), each the nearest f32; at whole quarters they are
+ *   exactly 1, -1 and +0.
+ * - The first stage has no twiddles. Of a later stage of radix r let s be the product of the radices before it. It has half / r iterations i,
+ *   from 0, with r - 1 twiddles k each, from 1: twiddle k of iteration i is the turn by (i mod s) * k of s * r parts.
+ * - At width 1 the stages stand one behind the other, in a stage the iterations, in an iteration the twiddles, all ascending. At width 2 or 4
+ *   so many iterations of a stage make a group, in which the first twiddles of all its iterations stand side by side, then the second ones and
+ *   so on; the iterations that make no whole group stand behind the groups as at width 1.
+ * - End twiddle k, from 1, is the turn by k of n parts: forward both its words are halved, inverse its im is negated.
+ *
+ * With words by these rules accuracy at the other 200 lengths is measured, not proved: no bin or sample that was tried was off by more than
+ * 5 % of what is proved of filled ones, (33 stages + 20) and (64 stages + 25) times half / 2^24 times the largest number (tests/own_words.c). */
+
+/* Fills the twiddles of a plan for the forward and for the inverse transform: those of the stages, packed for a width of 1, 2 or 4, and those of
+ * the ends. The lengths are twice ladlespindle_stage_twiddles and twice ladlespindle_end_twiddles (constants in ladlespindle_sizes.h). Both
+ * directions have the same stage words, so that one set of them serves both; the end words differ.
  * Refused, in this order, with 5, 6, 7 (the plan's length does not divide 6,720) and 8 (place 3: stage_twiddles; 4: end_twiddles). */
 ladlespindle_answer ladlespindle_fill_forward(ladlespindle_record plan, size_t width, float *stage_twiddles,
                                               size_t stage_twiddles_length, float *end_twiddles, size_t end_twiddles_length);
@@ -264,5 +286,7 @@ ladlespindle_ran ladlespindle_remainder_run(ladlespindle_record plan, uint32_t m
 #ifdef __cplusplus
 }
 #endif
+
+#include "ladlespindle_sizes.h"
 
 #endif

@@ -2,7 +2,7 @@
 //! place of the original's crate root.
 //!
 //! `oracle KIND` prints a record for each case, and `oracle sample KIND` the recorded ones among them: planning and scaling,
-//! of twiddles layouts, places, fillings and words, of stages stages, cells and runs, and of spectra forward, inverse, ends
+//! of twiddles layouts, places, fillings, words and lent, of stages stages, cells and runs, and of spectra forward, inverse, ends
 //! and whole. text.rs says what stands in a record. The counts go to standard error.
 extern crate alloc;
 
@@ -60,10 +60,10 @@ fn main() -> std::io::Result<()> {
         ["scaling"] => print("scaling", scaling(scaling::cases())),
         ["sample", "planning"] => print("recorded planning", planning(planning::sample())),
         ["sample", "scaling"] => print("recorded scaling", scaling(scaling::sample())),
-        [kind @ ("layouts" | "places" | "fillings" | "words")] => {
+        [kind @ ("layouts" | "places" | "fillings" | "words" | "lent")] => {
             print(kind, none_refused(twiddles::records(kind)))
         }
-        ["sample", kind @ ("layouts" | "places" | "fillings" | "words")] => {
+        ["sample", kind @ ("layouts" | "places" | "fillings" | "words" | "lent")] => {
             print(&format!("recorded {kind}"), none_refused(twiddles::sample(kind)))
         }
         [kind @ ("stages" | "cells" | "runs")] => {
@@ -79,7 +79,7 @@ fn main() -> std::io::Result<()> {
             print(&format!("recorded {kind}"), none_refused(spectra::sample(kind)))
         }
         _ => {
-            eprintln!("usage: oracle [sample] planning|scaling|layouts|places|fillings|words|stages|cells|runs|forward|inverse|ends|whole");
+            eprintln!("usage: oracle [sample] planning|scaling|layouts|places|fillings|words|lent|stages|cells|runs|forward|inverse|ends|whole");
             std::process::exit(2)
         }
     }

@@ -24,6 +24,8 @@
 //! Words start with a line of 32 bytes: lent list 16, width 1, direction 1, words of the stages 5, words of the ends 4. A line
 //! of 9 bytes follows for each word of the stages and then of the ends, all as the original has them.
 //!
+//! A line of lent words has 43 bytes: the same columns and a checksum 10, taken over these words.
+//!
 //! Stages start with a line of 26 bytes: lent list 16, number of the stage 1, width 1, words of its twiddles 4. A line of 9
 //! bytes follows for each word of the original's twiddles of that stage, packed for the width, and eight lines of 24 bytes, each
 //! with a case: twiddles 1 (R the original's, D drawn), kind of the cells 1, seed 8 in hexadecimal, checksum 10. The cells are

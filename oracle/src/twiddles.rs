@@ -14,6 +14,9 @@ pub const WIDTHS: [usize; 3] = [1, 2, 4];
 /// The circle of the house table.
 const CIRCLE: usize = 6720;
 
+/// The lengths of the hives, whose hosts lend the original's words, since the house table does not serve them.
+const HIVES: [usize; 2] = [588, 640];
+
 /// The checksum's modulus, a prime below 2^32.
 pub const MODULUS: u64 = 4_294_967_291;
 
@@ -281,12 +284,24 @@ impl Filling<'_> {
         columns.join(" ")
     }
 
-    /// The lines of all words, as the original has them.
-    fn whole(&self) -> String {
+    /// All words, as the original has them.
+    fn all(&self) -> Vec<u32> {
         let stage = self.layout.raw.iter().flat_map(words);
+        stage.chain(self.ends()).collect()
+    }
+
+    /// The lines of all words.
+    fn whole(&self) -> String {
         let mut lines = vec![self.asks()];
-        lines.extend(stage.chain(self.ends()).map(|each| word(Some(&each))));
+        lines.extend(self.all().iter().map(|each| word(Some(each))));
         lines.join("\n")
+    }
+
+    /// The line of words that a host lends: a checksum of them.
+    fn lent(&self) -> String {
+        let sum = checksum(self.all().iter().map(|&word| u64::from(word)));
+        let columns = [self.asks(), number(sum as usize, 10)];
+        columns.join(" ")
     }
 }
 
@@ -296,11 +311,21 @@ fn layouts() -> Vec<Layout> {
     lists().iter().flat_map(of).collect()
 }
 
+/// The layouts of lengths that pass a test.
+fn layouts_of(is_kept: impl Fn(usize) -> bool) -> Vec<Layout> {
+    let mut all = layouts();
+    all.retain(|layout| is_kept(product(&layout.list)));
+    all
+}
+
 /// The layouts whose lengths divide the circle.
 fn housed() -> Vec<Layout> {
-    let mut all = layouts();
-    all.retain(|layout| CIRCLE % product(&layout.list) == 0);
-    all
+    layouts_of(|n| CIRCLE % n == 0)
+}
+
+/// The layouts of the hives' lengths.
+fn hives() -> Vec<Layout> {
+    layouts_of(|n| HIVES.contains(&n))
 }
 
 /// The records of a kind, each with all its lines.
@@ -309,6 +334,7 @@ pub fn records(kind: &str) -> Vec<String> {
         "layouts" => layouts().iter().map(Layout::line).collect(),
         "places" => layouts().iter().map(Layout::whole).collect(),
         "fillings" => fillings(&housed()).iter().map(Filling::line).collect(),
+        "lent" => fillings(&hives()).iter().map(Filling::lent).collect(),
         _ => fillings(&housed()).iter().map(Filling::whole).collect(),
     }
 }
@@ -334,11 +360,11 @@ const NAMED: [(usize, usize, char); 12] = [
     (112, 4, 'I'),
 ];
 
-/// The recorded ones: every layout and every filling by its checksum; all places and all words of those named.
+/// The recorded ones: every layout and every filling by its checksum; all places and all words of those named; the hives' words.
 pub fn sample(kind: &str) -> Vec<String> {
     let kept = housed();
     match kind {
-        "layouts" | "fillings" => records(kind),
+        "layouts" | "fillings" | "lent" => records(kind),
         "places" => kept.iter().filter(is_named).map(Layout::whole).collect(),
         _ => {
             let named = |filling: &&Filling| NAMED.contains(&filling.name());
