@@ -28,8 +28,10 @@ static void accepted(const char *name, const uint8_t *list, size_t length, struc
     uint8_t radices[13];
     size_t stages = digits(radices, want.radices), merges = strlen(want.letters);
     ladlespindle_record plan = ladlespindle_plan(list, length);
+    ladlespindle_planned planned = ladlespindle_plan_list(list, length);
     check(ladlespindle_refusal_number(list, length) == 0, name, "number");
     check(ladlespindle_refusal_place(list, length) == 0, name, "place");
+    check(planned.number == 0 && planned.place == 0 && same(planned.plan, plan), name, "all in one answer");
     check(plan.n == want.n && plan.half == want.n / 2 && plan.count == stages, name, "numbers of the plan");
     check(holds(plan.radices, radices, stages), name, "radices of the plan");
     check(ladlespindle_n(list, length) == want.n, name, "n");
@@ -55,6 +57,8 @@ static void refused(const char *name, const uint8_t *list, size_t length, uint32
     check(ladlespindle_refusal_number(list, length) == number, name, "number");
     check(ladlespindle_refusal_place(list, length) == place, name, "place");
     check(same(ladlespindle_plan(list, length), none), name, "no plan");
+    ladlespindle_planned planned = ladlespindle_plan_list(list, length);
+    check(planned.number == number && planned.place == place && same(planned.plan, none), name, "all in one answer");
     check(ladlespindle_n(list, length) == 0, name, "no n");
     check(ladlespindle_half(list, length) == 0, name, "no half");
     check(ladlespindle_stages(list, length) == 0, name, "no stages");
