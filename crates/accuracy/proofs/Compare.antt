@@ -1,5 +1,6 @@
 -- Two numbers of whole units are compared as the counts of their units are. Assumes nothing.
-use Rattle.sequences.proofs.Basics.{_≡_, refl, sym, ap, ap₂, _∙_, ℕ, _+_, _*_, _/_, _^_, _≤_, _<_, le-trans, le-of-eq, mul-le-mul-right, arith, decLe, Bool, true, false}
+use Rattle.sequences.proofs.Basics.{_≡_, refl, sym, ap, ap₂, _∙_, ℕ, _+_, _*_, _/_, _^_, _≤_, _<_, le-trans, le-of-eq, mul-le-mul-right, arith, decLe}
+use Rattle.sequences.proofs.Basics.{Bool, true, false}
 use Rattle.sequences.proofs.Basics.{le-of-mul-le-mul-right, mul-pos, ltb, lt-ltb, le-ltb, lt-of-not-le, dite, false≢true, pow-pos}
 use lib.Ieee.{Float, nan, inf, fin, up, down, below, lt}
 use lib.Ieee.Fits.{down-pos}
@@ -51,6 +52,7 @@ lt-units (fin s m e) (inf t) S θ u v = absurd (v .held)
 lt-units (fin s m e) (fin t n d) S θ u v =
     let a = m * up e in let b = n * up d in let q = a * 2 ^ 149 / down e in let r = b * 2 ^ 149 / down d in
     let x = counted s q S (u .value) in let y = counted t r θ (v .value) in
-    below-signed s t (a * down d) (b * down e) (λ f. nought (2 ^ 149) a b (down e) (down d) q r (pow-pos 149) (down-pos e) (down-pos d) (u .held) (v .held) (x .1 f))
+    below-signed s t (a * down d) (b * down e)
+    (λ f. nought (2 ^ 149) a b (down e) (down d) q r (pow-pos 149) (down-pos e) (down-pos d) (u .held) (v .held) (x .1 f))
     (λ f. nought (2 ^ 149) b a (down d) (down e) r q (pow-pos 149) (down-pos d) (down-pos e) (v .held) (u .held) (y .1 f))
     ∙ crossed (2 ^ 149) a b (down e) (down d) q r (pow-pos 149) (down-pos e) (down-pos d) (u .held) (v .held) ∙ ap₂ ltb (x .0) (y .0)

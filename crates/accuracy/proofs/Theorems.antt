@@ -5,8 +5,8 @@
 -- (`tone-heard`), and a band that is quiet by a stated measure is not (`band-quiet`). Bins are counted in units of 2 ^ -149,
 -- exact bins in 2 ^ 60 parts of these. Assumes nothing.
 use Rattle.sequences.proofs.Basics.{_≡_, refl, sym, ap, _∙_, subst, ℕ, _+_, _-_, _*_, _/_, _%_, _^_, _≤_, _<_, le-refl, le-trans, le-of-eq, mul-le-mul}
-use Rattle.sequences.proofs.Basics.{mul-le-mul-left, mul-le-mul-right, add-le-add, mul-pos, le-of-mul-le-mul-left, le-of-mul-le-mul-right, arith, decLe, true, dite, List, [], _∷_, T, lit≤, lit<}
-use Rattle.sequences.proofs.Basics.{length, getD, lt-of-le-of-lt, lt-of-not-le, lt-ltb, le-ltb}
+use Rattle.sequences.proofs.Basics.{mul-le-mul-left, mul-le-mul-right, add-le-add, mul-pos, le-of-mul-le-mul-left, le-of-mul-le-mul-right, arith, decLe, true}
+use Rattle.sequences.proofs.Basics.{dite, List, [], _∷_, T, lit≤, lit<, length, getD, lt-of-le-of-lt, lt-of-not-le, lt-ltb, le-ltb}
 use lib.Ieee.{Float, nan, binary32}
 use Rattle.refusal.specs.declared.Verdict.{Verdict}
 use Rattle.refusal.specs.declared.Verdict.the-variants.{Accepted}

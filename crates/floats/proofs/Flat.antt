@@ -6,7 +6,11 @@ use Rattle.sequences.proofs.Pairs.{put-here, put-still, pair-before, pair-after
 use Rattle.sequences.proofs.Pairs as Pairs
 use lib.Ieee.{Float, nan}
 use Rattle.floats.specs.declared.complex.Complex.{Complex}
-use Rattle.floats.specs.Complexes.{cx, blank, ofPair, cell, putCell, paired, flat}
+use Rattle.floats.specs.Complexes.{cx, blank, cell, putCell, paired, flat}
+
+-- a pair of words as a cell
+abbrev as-cell : Float × Float → Complex
+as-cell w = cx (w .0) (w .1)
 
 pub get-paired : (xs : List Float) (n : ℕ) → 2 * n + 1 < length xs → getD (paired xs) n blank ≡ cell xs n
 unfolding paired
@@ -49,10 +53,10 @@ cell-flat zs k l = sym (get-paired (flat zs) k (omega (arith, length-flat zs))) 
 -- ---- the cells of the beginning and of the end of a list
 
 pub cell-front : (xs ys : List Float) (j : ℕ) → 2 * j + 1 < length xs → cell (xs ++ ys) j ≡ cell xs j
-cell-front xs ys j l = ap ofPair (pair-before nan xs ys j l)
+cell-front xs ys j l = ap as-cell (pair-before nan xs ys j l)
 
 pub cell-back : (xs ys : List Float) (n j : ℕ) → length xs ≡ 2 * n → cell (xs ++ ys) (n + j) ≡ cell ys j
-cell-back xs ys n j l = ap ofPair (pair-after nan xs ys n j l)
+cell-back xs ys n j l = ap as-cell (pair-after nan xs ys n j l)
 
 pub cell-take : (xs : List Float) (n j : ℕ) → j < n → cell (take (2 * n) xs) j ≡ cell xs j
 cell-take xs n j l = ap₂ cx (getD-take (2 * n) xs (2 * j) nan (omega arith)) (getD-take (2 * n) xs (2 * j + 1) nan (omega arith))
@@ -68,7 +72,7 @@ module _ (xs : List Float) (k : ℕ) (z : Complex) where
   length-put = Pairs.length-put xs k (z .re, z .im)
 
   pub get-put : 2 * k + 1 < length xs → cell (putCell xs k z) k ≡ z
-  get-put l = ap ofPair (put-here nan xs k (z .re, z .im) l)
+  get-put l = ap as-cell (put-here nan xs k (z .re, z .im) l)
 
   pub get-other : (n : ℕ) → n ≢ k → cell (putCell xs k z) n ≡ cell xs n
-  get-other n ne = ap ofPair (put-still nan xs k (z .re, z .im) n ne)
+  get-other n ne = ap as-cell (put-still nan xs k (z .re, z .im) n ne)

@@ -41,12 +41,8 @@ turnedBy (General c s) x = times x (cx c s)
 
 -- ---- cells
 
--- a pair of words as a cell
-abbrev pub ofPair : Float × Float → Complex
-ofPair w = cx (w .0) (w .1)
-
 abbrev pub cell : List Float → ℕ → Complex
-cell xs n = ofPair (pairAt nan xs n)
+cell xs n = let w = pairAt nan xs n in cx (w .0) (w .1)
 
 abbrev pub putCell : List Float → ℕ → Complex → List Float
 putCell xs n z = putPair xs n (z .re, z .im)

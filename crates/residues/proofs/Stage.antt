@@ -34,7 +34,7 @@ module _ (m step s r : ℕ) (ps : 0 < s) where
     pub standing-next : (k + 1 ≡ s → ⊥) → Standing m step s r (i + 1) block (k + 1) (v * step % m)
     standing-next f =
         let b = same-block s i 1 (omega (arith, mod-lt i ps, h .column, f)) in
-        record { starts = rw (b .0) (h .starts); column = rw (b .1) (ap (λ (n : ℕ). n + 1) (h .column)); power = rw (b .1) (next-power step m (i % s) v (h .power)) }
+        record { starts = rw (b .0) (h .starts); column = rw (b .1, h .column); power = rw (b .1) (next-power step m (i % s) v (h .power)) }
 
     -- at the start of the next
     pub standing-block : 1 < m → k + 1 ≡ s → Standing m step s r (i + 1) (block + s * r) 0 1
