@@ -12,14 +12,16 @@ sized q k nan a = absurd a
 sized q k (inf s) a = tt
 sized q k (fin s m e) a = tt
 
--- and its pattern follows from it
-bits-of : (q k b : ℕ) (x : Float) → AtMost q k x → Holds b x → b ≡ toBits binary32 x
-bits-of q k b x a h = sym (toBits-ofBits binary32 b (h .word) (subst (λ (y : Float). T (not (isNan y))) (sym (h .value)) (sized q k x a)))
-    ∙ ap (toBits binary32) (h .value)
+-- and the pattern of what is no NaN follows from it
+bits-of : (b : ℕ) (x : Float) → T (not (isNan x)) → Holds b x → b ≡ toBits binary32 x
+bits-of b x t h = sym (toBits-ofBits binary32 b (h .word) (subst (λ (y : Float). T (not (isNan y))) (sym (h .value)) t)) ∙ ap (toBits binary32) (h .value)
 
 -- one float
+pub same-told : (b c : ℕ) (x : Float) → T (not (isNan x)) → Holds b x → Holds c x → b ≡ c
+same-told b c x t h g = bits-of b x t h ∙ sym (bits-of c x t g)
+
 pub same-word : (q k b c : ℕ) (x : Float) → AtMost q k x → Holds b x → Holds c x → b ≡ c
-same-word q k b c x a h g = bits-of q k b x a h ∙ sym (bits-of q k c x a g)
+same-word q k b c x a h g = same-told b c x (sized q k x a) h g
 
 -- a row of them
 same-words : (k : ℕ) (xs : List Float) → Words k xs → SameBits xs xs

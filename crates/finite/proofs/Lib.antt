@@ -4,6 +4,7 @@ pub mod Sizes
 pub mod Stages
 pub mod Words
 pub mod Bits
+pub mod Plain
 pub mod Ends
 pub mod Transforms
 pub mod Fillings

@@ -2,9 +2,9 @@
 -- the transform itself. Finite: within the bounds that acceptance checks (samples to 2 ^ 32, numbers of bins to 2 ^ 48, twiddles to 1) every number
 -- written or answered is finite, with a bound below 2 ^ 128; so two runs that meet a promise leave the same bits in every word that a call writes. A
 -- plan has at most 13 stages. Assumes nothing.
-use Rattle.sequences.proofs.Basics.{_≡_, refl, sym, ap, _∙_, subst, ℕ, _+_, _*_, _<_, arith, List, lit≤, length, getD, eqb-true}
+use Rattle.sequences.proofs.Basics.{_≡_, refl, sym, ap, _∙_, subst, ℕ, _+_, _-_, _*_, _<_, arith, not, List, T, lit≤, length, getD, eqb-true}
 use lib.IntN.{ℤ, pos, _*ℤ_}
-use lib.Ieee.{Float, nan}
+use lib.Ieee.{Float, nan, isNan}
 use Rattle.refusal.specs.declared.Verdict.{Verdict}
 use Rattle.refusal.specs.declared.Verdict.the-variants.{Accepted}
 use Rattle.refusal.proofs.Rows.{settled}
@@ -17,20 +17,27 @@ use Rattle.stage.proofs.Unique.{Stages-one}
 use Rattle.spectrum.specs.Calls.{Forwards, Inverts}
 use Rattle.power.specs.Power.{Powers}
 use Rattle.scratch.specs.Scratch.{dataOf, padOf}
-use Rattle.transform.specs.Transforms.{Slices}
+use Rattle.transform.specs.Transforms.{Slices, forwardOf}
+use Rattle.mixing.specs.Steps.{fftSteps}
+use Rattle.ends.proofs.Cells.{length-ended}
 use Rattle.power.specs.declared.Summed.{Summed}
 use Rattle.spectrum.proofs.Unique.{Forwards-one, Inverts-one}
 use Rattle.power.proofs.Unique.{Powers-one}
 use Rattle.spectrum.proofs.Verdicts.{forwardable, invertible}
+use Rattle.hear.specs.Hear.{Hears}
+use Rattle.hear.specs.declared.Heard.{Heard}
+use Rattle.hear.proofs.Theorems.{heard-band, heard-forward, heard-power}
+use Rattle.hear.proofs.Unique.{Hears-one}
 use Rattle.finite.specs.Bits.{Holds, SameBits, SameWritten}
 use Rattle.finite.specs.Sizes.{AtMost, Words, RightForward, RightInverse, Within}
 use Rattle.finite.specs.Whole.{IsWhole, Short, Small, Samples, IsBins}
 use Rattle.finite.proofs.Accepted.{lent-accepted, whole-most, words-wider}
-use Rattle.finite.proofs.Bits.{same-word, same-bits}
+use Rattle.finite.proofs.Bits.{same-told, same-word, same-bits}
 use Rattle.finite.proofs.Calls.{stage-lent-within, stage-within, summed-within, power-within, samples-within, forward-within, bins-within}
 use Rattle.finite.proofs.Calls.{inverse-within}
 use Rattle.finite.proofs.Exact.{short-count, forward-whole, inverse-whole}
 use Rattle.finite.proofs.Fillings.{filled-ones}
+use Rattle.finite.proofs.Plain.{plain-told, power-plain}
 
 -- ---- exact, at lengths 2 and 4
 
@@ -132,3 +139,27 @@ pub power-bits : (xs : List Float) (lo hi : ℕ) (r r′ : Summed) → Powers xs
     → Holds c (r′ .power) → b ≡ c
 power-bits xs lo hi r r′ s s′ e b c h g =
     same-word 8194 96 b c (r .power) (power-finite xs lo hi r s e) h (subst (λ (z : Summed). Holds c (z .power)) (Powers-one xs lo hi s′ s) g)
+
+-- forward leaves h + 1 bins
+bins-long : (p : Record) (W : ℕ) (stage end xs s : List Float) → length (forwardOf p W stage end xs s .0) ≡ 2 * (p .half + 1)
+unfolding forwardOf
+bins-long p W stage end xs s = length-ended fftSteps (p .half) end _
+
+-- a hearing: the words that forward writes, and the power it answers, which is no NaN even where it is infinite
+pub hear-bits : (p : Record) (W : ℕ) (stage end xs : List Float) (lo hi : ℕ) (threshold : Float) (before : Slices) (r r′ : Heard) (after after′ : Slices)
+    → Hears p W stage end xs lo hi threshold before r after → Hears p W stage end xs lo hi threshold before r′ after′ → r .verdict ≡ Accepted
+    → SameWritten 1 p after after′ × ((b c : ℕ) → Holds b (r .power) → Holds c (r′ .power) → b ≡ c)
+hear-bits p W stage end xs lo hi threshold before r r′ after after′ f g e =
+    let same = Hears-one p W stage end xs lo hi threshold before f g in
+    let e′ : r′ .verdict ≡ Accepted = ap (λ (z : Heard). z .verdict) (sym (same .0)) ∙ e in
+    let ran = heard-forward p W stage end xs lo hi threshold before r after f e in
+    let ran′ = heard-forward p W stage end xs lo hi threshold before r′ after′ g e′ in
+    let within = forward-finite p W stage end xs before Accepted after ran refl in
+    let band = heard-band p W stage end xs lo hi threshold before r after f e in
+    let long : length (after .0) ≡ 2 * (p .half + 1) =
+    ap (λ (s : Slices). length (s .0)) (settled _ _ _ _ _ ran (sym (ran .answer))) ∙ bins-long p W stage end xs (before .1) in (
+      forward-bits p W stage end xs before Accepted Accepted after after′ ran ran′ refl,
+      λ b c h k. same-told b c (r .power) (subst (λ (x : Float). T (not (isNan x))) (sym (heard-power p W stage end xs lo hi threshold before r after f e))
+          (plain-told _ (power-plain (after .0) _ lo (hi + 1 - lo) (within .0) (omega (arith, long, band .0, band .1))))) h
+          (subst (λ (z : Heard). Holds c (z .power)) (sym (same .0)) k),
+    )
