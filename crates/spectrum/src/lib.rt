@@ -3,7 +3,6 @@ pub mod inner;
 
 use inner::check::is_bins;
 use inner::check::lent;
-use inner::check::lent_samples;
 use plan::Record;
 use refusal::Verdict;
 use scan::inner::scan::CEILING;
@@ -22,12 +21,16 @@ pub fn forward(
 ) -> Verdict
     ensures { λ r. ⌜ Forwards plan width (now («stage_twiddles» .entry)) (now («end_twiddles» .entry)) (now (input .entry)) (now (output .entry), now (scratch .entry)) r (now (output .exit), now (scratch .exit)) ⌝ }
 {
-    match lent_samples(
+    let is_input = input.len() == plan.n;
+    let is_output = is_bins(output.len(), plan.half);
+    match lent(
         plan,
         width,
-        input,
-        output.len(),
+        is_input,
+        is_output,
         scratch.len(),
+        4294967296.0,
+        input,
         stage_twiddles,
         end_twiddles,
     ) {

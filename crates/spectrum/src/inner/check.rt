@@ -109,7 +109,7 @@ pub fn lent(
     }
 }
 
-// The verdict of what goes forward: n samples of at most 2^32, and room for so many words.
+// The verdict of `forward`, for callers that go on where it accepts: n samples of at most 2^32, and room for so many words.
 pub fn lent_samples(
     plan: Record,
     width: usize,
