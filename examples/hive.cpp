@@ -30,8 +30,8 @@ private:
 };
 
 static constexpr std::size_t length = 960;
-static constexpr float rate = 16000, tone = length / 2 / 32;
-static Brake<length> brake(rate, 200, 300, tone * tone);
+static constexpr float hertz = 16000, tone = length / 2 / 32;
+static Brake<length> brake(hertz, 200, 300, tone * tone);
 
 static const sound sounds[] = {
     {"first block after a power cut, bees fan", 700, 250, 0.0625, 0, 0, 0, 0},
@@ -45,7 +45,7 @@ int main()
     static std::array<int16_t, length> block;
     std::printf("start: %s\n", ladlespindle_hive_sentence(brake.opened()));
     for (const sound &s : sounds) {
-        record(&s, rate, block.data());
+        record(&s, hertz, block.data());
         const ladlespindle_heard heard = brake.hear(block.data(), s.count);
         std::printf("heating %-3s %s: %s\n", ladlespindle_may_heat(heard) ? "on" : "off", s.name, ladlespindle_heard_sentence(heard));
     }

@@ -1,4 +1,5 @@
-/* ladlespindle.h: planning of spectra, their twiddles, both transforms and the power of bins, and stages in remainders, for a C host.
+/* ladlespindle.h: planning of spectra, their twiddles, both transforms, the power of bins and whether bees fan, and stages in remainders, for
+ * a C host. One that only asks whether bees fan takes ladlespindle_hive.h, which tests its twiddles before it hears.
  *
  * Every function takes whatever it is lent, ends, and allocates nothing. A list is bytes, one radix each: 2, 3, 4, 5,
  * 7 or 8. Its product is the length n, even and at most 8,192.
@@ -20,7 +21,7 @@
  * Calls share nothing: there is no state behind them, so they may run in several threads at once, as long as no buffer that one of
  * them writes is lent to another meanwhile. Lists, plans and twiddle words that are only read may be lent to all.
  *
- * Stack: a filling or a single turn takes at most 16 KB, which is the table of turns; a float stage or a transform at most 8 KB; any
+ * Stack: a filling or a single turn takes at most 16 KB, which is the table of turns; a float stage, a transform or a hearing at most 8 KB; any
  * other call at most 2 KB.
  *
  * To link (x86-64 Linux, any C library): `rt staticlib ladlespindle` proves the functions and writes
@@ -209,7 +210,7 @@ ladlespindle_turn_words ladlespindle_turn(uint32_t t, uint32_t l);
  *     2, 4, 6, 8, 10, 12, 14, 16, 20, 24, 28, 30, 32, 40, 42, 48, 56, 60, 64, 70, 80, 84, 96, 112, 120, 140, 160, 168, 192, 210, 224, 240, 280,
  *     320, 336, 420, 448, 480, 560, 672, 840, 960, 1,120, 1,344, 1,680, 2,240, 3,360, 6,720
  *
- * and at any other the host lends words of its own: `tools/words N` writes them as a C file, and these are the rules.
+ * and at any other the host lends words of its own: `tools/words N` writes them as a C header, and these are the rules.
  *
  * - The turn by t of p parts has the words re = cos(2 pi t / p) and im = -sin(2 pi t / p), each the nearest f32; at whole quarters they are
  *   exactly 1, -1 and +0.

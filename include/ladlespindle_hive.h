@@ -7,21 +7,24 @@
  *     heating = ladlespindle_may_heat(ladlespindle_hive_hear16(&hive, block, 960));
  *
  * A host that ignores what open answers is braked: until open has succeeded, hearing refuses with 5, and a refusal is no leave to heat.
- * Open succeeds only after a self-test, in which ladlespindle_hear itself must tell square waves in the band from fainter ones and from
- * those beside it. Words that are zeros, or of another width, direction or length, fail it, unless they hear the band all the same. Open
- * again whenever the room or the words may have been spoilt.
+ * Open succeeds only after a self-test, in which ladlespindle_hear itself must tell square waves in the band from fainter ones, from those
+ * beside it and from an offset. Words that are zeros, or of another width, direction or length, fail it, unless they hear the band all the
+ * same. Words that change after opening are noticed, and hearing refuses with 5. Silence is quiet: that the microphone works is the host's
+ * to see.
  *
  * Samples are scaled so that full scale is 1. A tone of amplitude A at a bin gives that bin a power of (A * n / 2)^2: a threshold for the
- * tones of 1/32 of full scale at n = 960 is 15 * 15 = 225. It is above 0 and at most (n / 2)^2, which only a tone of full scale reaches.
+ * tones of 1/32 of full scale at n = 960 is 15 * 15 = 225. Halfway between two bins of the band a tone has 0.8 of that. A threshold is
+ * from 1e-30 to (n / 2)^2, which only a tone of full scale reaches.
  *
- * Nothing is allocated, and nothing is shared: each hive has a room of its own, which nobody else writes while the hive is used. The
- * functions are plain C over the proved calls of ladlespindle.h, and are tested, not proved. */
+ * Nothing is allocated, and nothing is shared: each hive has a room of its own, which lives as long as the hive and which nobody else writes,
+ * and one thread at a time hears with it. The functions are plain C over the proved calls of ladlespindle.h, and are tested, not proved. */
 #ifndef LADLESPINDLE_HIVE_H
 #define LADLESPINDLE_HIVE_H
 
 #include "ladlespindle.h"
 #include "ladlespindle_refusals.h"
 #include "ladlespindle_sizes.h"
+#include <string.h>
 
 #if defined(__FINITE_MATH_ONLY__) && __FINITE_MATH_ONLY__
 #error "a NaN must be seen: compile without -ffast-math and -ffinite-math-only"
@@ -41,6 +44,7 @@ typedef struct {
     float *block, *spectrum, *scratch;
     const float *stage, *end;
     size_t spectrum_length, scratch_length, stage_length, end_length;
+    uint64_t mark;
 } ladlespindle_hive;
 
 /* A hive that is closed. */
@@ -56,7 +60,7 @@ enum ladlespindle_hive_outcome {
     LADLESPINDLE_HIVE_OPEN = 1,            /* the self-test is passed: hearing decides */
     LADLESPINDLE_HIVE_REFUSED = 2,         /* a call refused; number and place are its own */
     LADLESPINDLE_HIVE_OTHER_INTERFACE = 3, /* the library has another interface number than its header */
-    LADLESPINDLE_HIVE_NO_THRESHOLD = 4,    /* the threshold is not above 0, or above (n / 2)^2, or a NaN */
+    LADLESPINDLE_HIVE_NO_THRESHOLD = 4,    /* the threshold is below 1e-30, or above (n / 2)^2, or a NaN */
     LADLESPINDLE_HIVE_SELF_TEST_FAILED = 5 /* the words do not tell waves in the band from others; place: the bin of the wave */
 };
 
@@ -77,19 +81,38 @@ static inline int ladlespindle_may_heat(ladlespindle_heard heard)
     return heard.number == LADLESPINDLE_ACCEPTED && heard.decision == LADLESPINDLE_QUIET;
 }
 
-/* Hears a block of exactly n samples, full scale being 1. Answers as ladlespindle_hear; refused with 5 unless the hive is open, and with 8
- * at place 0 for a block of another length, of which nothing is kept. The samples are not in the hive's room, but for its own block. */
+/* A number that twiddles of two words each give, going on from another, and that other words hardly give. */
+static inline uint64_t ladlespindle_hive_mark_(uint64_t mark, const float *words, size_t length)
+{
+    for (size_t i = 0; i + 1 < length; i += 2) {
+        uint64_t bits;
+        memcpy(&bits, &words[i], sizeof bits);
+        mark = (mark ^ bits) * 1099511628211u;
+    }
+    return mark;
+}
+
+/* The number of a hive's stage and end words. */
+static inline uint64_t ladlespindle_hive_words_(const ladlespindle_hive *hive)
+{
+    return ladlespindle_hive_mark_(ladlespindle_hive_mark_(1, hive->stage, hive->stage_length), hive->end, hive->end_length);
+}
+
+/* Hears a block of exactly n samples, full scale being 1. Answers as ladlespindle_hear; refused with 5 unless the hive is open and its words
+ * are those that it was opened with, and with 8 at place 0 for a block of another length, of which nothing is kept. The samples are not in
+ * the hive's room, but for its own block. */
 static inline ladlespindle_heard ladlespindle_hive_hear(const ladlespindle_hive *hive, const float *samples, size_t count)
 {
     static const ladlespindle_hive closed = LADLESPINDLE_HIVE_INIT;
-    if (hive == NULL) hive = &closed;
+    if (hive == NULL || !ladlespindle_accepts(hive->plan) || hive->mark != ladlespindle_hive_words_(hive)) hive = &closed;
     if (samples == NULL) count = 0;
     return ladlespindle_hear(hive->plan, hive->width, samples, count, hive->spectrum, hive->spectrum_length, hive->scratch,
                              hive->scratch_length, hive->stage, hive->stage_length, hive->end, hive->end_length, hive->lo, hive->hi,
                              hive->threshold);
 }
 
-/* The same of samples of 16 bits, each divided by 32,768, which is exact. */
+/* The same of samples of 16 bits, each divided by 32,768, which is exact. Samples of fewer bits are shifted up first, those of 12 bits by 4:
+ * else bees are heard 16 times too faint. */
 static inline ladlespindle_heard ladlespindle_hive_hear16(const ladlespindle_hive *hive, const int16_t *samples, size_t count)
 {
     if (hive == NULL || samples == NULL || count != hive->plan.n) return ladlespindle_hive_hear(hive, NULL, 0);
@@ -117,7 +140,7 @@ static inline int ladlespindle_hive_band_(ladlespindle_hive *hive, float rate, f
 {
     double n = (double)hive->plan.n;
     size_t bins = 0;
-    if (!(rate > 0 && rate - rate == 0 && lo_hz >= 0 && lo_hz <= hi_hz && (double)hi_hz * 2 <= (double)rate)) return 0;
+    if (!(rate > 0 && rate <= 3.4028235e38f && lo_hz >= 0 && lo_hz <= hi_hz && (double)hi_hz * 2 <= (double)rate)) return 0;
     for (size_t k = 0; k <= hive->plan.half; k++) {
         double hz_n = (double)k * (double)rate;
         if (hz_n < (double)lo_hz * n || hz_n > (double)hi_hz * n) continue;
@@ -182,15 +205,17 @@ static inline ladlespindle_opened ladlespindle_hive_ended_(uint32_t outcome, uin
     return opened;
 }
 
-/* The self-test: silence is quiet, and the waves at every bin of the band and at the bins beside it are heard as they should be. */
+/* The self-test: silence is quiet, an offset of 256 loud waves too unless the band has bin 0, and the waves at every bin of the band and at the
+ * bins beside it are heard as they should be. */
 static inline ladlespindle_opened ladlespindle_hive_tested_(const ladlespindle_hive *hive)
 {
     size_t first = hive->lo - (hive->lo > 0), last = hive->hi + (hive->hi < hive->plan.half);
     float loud = ladlespindle_hive_loud_(hive);
-    ladlespindle_heard silence = ladlespindle_hive_wave_(hive, 0, 0, 0);
+    ladlespindle_heard silence = ladlespindle_hive_wave_(hive, 0, 0, 0), offset;
     if (silence.number != LADLESPINDLE_ACCEPTED) return ladlespindle_hive_ended_(LADLESPINDLE_HIVE_REFUSED, silence.number, silence.place);
+    offset = ladlespindle_hive_wave_(hive, 0, 0, hive->lo > 0 ? 256 * loud : 0);
     for (size_t bin = first; bin <= last; bin++)
-        if (!ladlespindle_may_heat(silence) || !ladlespindle_hive_passes_(hive, bin, loud))
+        if (!ladlespindle_may_heat(silence) || !ladlespindle_may_heat(offset) || !ladlespindle_hive_passes_(hive, bin, loud))
             return ladlespindle_hive_ended_(LADLESPINDLE_HIVE_SELF_TEST_FAILED, LADLESPINDLE_NOT_PLANNED, bin);
     return ladlespindle_hive_ended_(LADLESPINDLE_HIVE_OPEN, LADLESPINDLE_ACCEPTED, 0);
 }
@@ -224,7 +249,7 @@ static inline ladlespindle_opened ladlespindle_hive_opened_(ladlespindle_hive *h
     as.threshold = threshold;
     if (!ladlespindle_accepts(as.plan)) return ladlespindle_hive_ended_(LADLESPINDLE_HIVE_REFUSED, LADLESPINDLE_NOT_PLANNED, 0);
     if (!ladlespindle_hive_band_(&as, rate, lo_hz, hi_hz)) return ladlespindle_hive_ended_(LADLESPINDLE_HIVE_REFUSED, LADLESPINDLE_BINS, 0);
-    if (!(threshold > 0 && (double)threshold <= half * half))
+    if (!(threshold >= 1e-30f && (double)threshold <= half * half))
         return ladlespindle_hive_ended_(LADLESPINDLE_HIVE_NO_THRESHOLD, LADLESPINDLE_NOT_PLANNED, 0);
     if (!ladlespindle_hive_lay_out_(&as, room, room_length, fill ? as.stage_length + as.end_length : 0))
         return ladlespindle_hive_ended_(LADLESPINDLE_HIVE_REFUSED, LADLESPINDLE_LENGTH, LADLESPINDLE_HIVE_PLACE_OF_ROOM);
@@ -232,6 +257,7 @@ static inline ladlespindle_opened ladlespindle_hive_opened_(ladlespindle_hive *h
         ladlespindle_answer filled = ladlespindle_hive_filled_(&as);
         if (filled.number != LADLESPINDLE_ACCEPTED) return ladlespindle_hive_ended_(LADLESPINDLE_HIVE_REFUSED, filled.number, filled.place);
     }
+    as.mark = ladlespindle_hive_words_(&as);
     opened = ladlespindle_hive_tested_(&as);
     if (opened.outcome == LADLESPINDLE_HIVE_OPEN) *hive = as;
     return opened;
@@ -240,9 +266,10 @@ static inline ladlespindle_opened ladlespindle_hive_opened_(ladlespindle_hive *h
 /* ---- opening */
 
 /* Opens a hive that hears blocks of n samples, `rate` of them a second, and brakes when the power of the bins from lo_hz to hi_hz, both
- * included, is not below the threshold. A tone between an edge and the first bin inside is heard in part only, so edges are best on
- * multiples of rate / n. The words are filled into the room; where filling refuses the length, with 7, open with words in ROM. The
- * self-test hears 8 blocks for each bin of the band and for the one on either side.
+ * included, is not below the threshold. A tone between an edge and the first bin inside may be missed, however loud: put the edges on
+ * multiples of rate / n, or one rate / n further out. The words are filled into the room; where filling refuses the length, with 7, open
+ * with words in ROM. The self-test hears 8 blocks for each bin of the band and for the one on either side: 72 for 200 to 300 Hz at n = 960
+ * and 16,000 Hz, some 33,000 for all bins at 8,192.
  *
  * Whatever the hive was, it is closed first, and stays so unless the outcome is LADLESPINDLE_HIVE_OPEN. Refused, in this order, with 1, 2,
  * 3 or 4 (n is not planned), 14 (the rate is not positive and finite, the band is not within 0 to rate / 2, is upside down or has no bin),
@@ -295,7 +322,7 @@ static inline const char *ladlespindle_hive_sentence(ladlespindle_opened opened)
     case LADLESPINDLE_HIVE_OPEN: return "the hive is open: it heard every bin of its band in the self-test";
     case LADLESPINDLE_HIVE_OTHER_INTERFACE: return "header and library have different interface numbers: install both from one version";
     case LADLESPINDLE_HIVE_NO_THRESHOLD:
-        return "no tone can trip the threshold, or silence does: take one above 0, at most the square of n / 2";
+        return "no tone can trip the threshold, or nearly nothing does: take one from 1e-30 to the square of n / 2";
     case LADLESPINDLE_HIVE_SELF_TEST_FAILED:
         return "the self-test failed: lend the forward words of this plan and width, as filling or tools/words makes them";
     case LADLESPINDLE_HIVE_REFUSED: break;
@@ -323,7 +350,7 @@ static inline const char *ladlespindle_heard_sentence(ladlespindle_heard heard)
     switch (heard.number) {
     case LADLESPINDLE_ACCEPTED:
         return ladlespindle_may_heat(heard) ? "the bees are quiet: the heating may run" : "the bees fan: the heating stops";
-    case LADLESPINDLE_NOT_PLANNED: return "the hive is not open: open it, and see what opening answers";
+    case LADLESPINDLE_NOT_PLANNED: return "the hive is not open, or its words have changed: open it, and see what opening answers";
     case LADLESPINDLE_LENGTH: return "the block has fewer or more than n samples: drop it, and lend the next whole one";
     default: return ladlespindle_sentence(heard.number);
     }

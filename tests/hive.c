@@ -54,16 +54,25 @@ static void add_hum(size_t n, size_t rate, double amplitude, double offset)
     for (size_t j = 0; j < n; j++) samples[j] += (float)offset;
 }
 
-/* How many of the tones from bin lo to bin hi, bins and halves between them, may be heated to. */
+/* Whether what is in the samples may be heated to. */
+static int is_missed(size_t n)
+{
+    ladlespindle_heard heard = ladlespindle_hive_hear(&hive, samples, n);
+    return heard.decision != LADLESPINDLE_FANNING || ladlespindle_may_heat(heard);
+}
+
+/* How many of the tones from bin lo to bin hi, bins and halves between them, bare and on an offset, may be heated to. */
 static size_t unbraked(size_t n, size_t lo, size_t hi)
 {
+    static const float offsets[] = {0.125f, -0.125f, 0.5f, -0.5f};
     size_t missed = 0;
     for (size_t halves = 2 * lo; halves <= 2 * hi; halves++)
         for (size_t phase = 0; phase < PHASES; phase++) {
             silence(n);
             add_tone(n, halves, phase, twice);
-            ladlespindle_heard heard = ladlespindle_hive_hear(&hive, samples, n);
-            missed += heard.decision != LADLESPINDLE_FANNING || ladlespindle_may_heat(heard);
+            missed += is_missed(n);
+            for (size_t i = 0; i < n; i++) samples[i] += offsets[phase % 4];
+            missed += is_missed(n);
         }
     return missed;
 }
@@ -155,6 +164,26 @@ static void decisions(void)
             add_tone(960, halves, phase, twice / 2);
             check(is_quiet(ladlespindle_hive_hear(&hive, samples, 960)), "a tone of half the threshold's power", "quiet");
         }
+}
+
+/* A hive whose words change after it was opened refuses until they are as they were; so does one that nobody made zeros of. */
+static void spoilt(void)
+{
+    float *words = room + LADLESPINDLE_HIVE_ROM_ROOM(960), kept;
+    size_t count = LADLESPINDLE_STAGE_WORDS(960) + LADLESPINDLE_END_WORDS(960);
+    check(is(open_960(), LADLESPINDLE_HIVE_OPEN, 0, 0), "words that change", "opens");
+    silence(960);
+    for (size_t i = 0; i < count; i += i + 97 < count ? 97 : 1) {
+        kept = words[i];
+        words[i] = of_bits(bits(kept) ^ 1);
+        check_at(brakes(ladlespindle_hive_hear(&hive, samples, 960), 5, 0), "a word that changes", i, "refused");
+        words[i] = kept;
+        check_at(is_quiet(ladlespindle_hive_hear(&hive, samples, 960)), "a word that is as it was", i, "heard");
+    }
+    memset(room, 0, sizeof room);
+    check(brakes(ladlespindle_hive_hear(&hive, samples, 960), 5, 0) && unbraked(960, 12, 18) == 0, "a room that is wiped", "refused");
+    memset(&hive, 0xa5, sizeof hive);
+    check(brakes(ladlespindle_hive_hear(&hive, samples, 960), 5, 0), "a hive that is no zeros", "refused");
 }
 
 /* Samples of 16 bits are heard as the floats that they stand for, the first and the last numbers among them. */
@@ -260,7 +289,7 @@ static void bands(void)
 
 static void thresholds(void)
 {
-    const float wrong[] = {0,      -0.0f, -1, -225, of_bits(0x7fc00000), of_bits(0xffc00000), of_bits(0x7f800000), of_bits(0xff800000),
+    const float wrong[] = {0,      -0.0f, 9e-31f, -1, -225, of_bits(0x7fc00000), of_bits(0xffc00000), of_bits(0x7f800000), of_bits(0xff800000),
                            230401, 1e30f};
     static const float right[] = {230400, 230399, 57600, 225, 1, 1e-3f, 1e-30f};
     for (size_t i = 0; i < sizeof wrong / sizeof *wrong; i++) {
@@ -522,6 +551,7 @@ int main(void)
     closed("a hive that was never opened");
     decisions();
     sixteen_bits();
+    spoilt();
     lengths();
     bands();
     thresholds();

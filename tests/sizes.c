@@ -33,7 +33,7 @@ static const struct row {
     size_t n, spectrum, scratch, stage, end, stage_room, end_room;
 } rows[] = {LENGTHS(ROW)};
 
-/* The sizes of a length are those that its list has, and those that forward asks for: with any other length it refuses. */
+/* The sizes of a length are those that its list has, and those that forward asks for: with one number of scratch less it refuses. */
 static void sizes(struct row row)
 {
     static float input[8192], spectrum[LADLESPINDLE_SPECTRUM_WORDS_MAX], scratch[LADLESPINDLE_SCRATCH_WORDS_MAX];

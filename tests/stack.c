@@ -64,6 +64,16 @@ static void inverse(void)
                                     end_twiddles, end_words).number;
 }
 
+static void hear(void)
+{
+    answered = ladlespindle_hear(plan, width, input, plan.n, output, plan.n + 2, scratch, 6 * plan.n, stage_twiddles, stage_words,
+                                 end_twiddles, end_words, 0, plan.half, 1).number;
+}
+
+static void plan_list(void) { answered = ladlespindle_plan_list(list, length).number; }
+static void version(void) { answered = ladlespindle_version(); }
+static void interface(void) { answered = ladlespindle_interface(); }
+
 static void remainder_stage(void)
 {
     answered = ladlespindle_remainder_stage(plan, 0, 65537, 1, data, plan.half, other, plan.half).number;
@@ -86,6 +96,10 @@ static const struct {
     {"stage", stage, 8192},
     {"forward", forward, 8192},
     {"inverse", inverse, 8192},
+    {"hear", hear, 8192},
+    {"plan_list", plan_list, 2048},
+    {"version", version, 2048},
+    {"interface", interface, 2048},
     {"plan", planning, 2048},
     {"refusal_number", number, 2048},
     {"refusal_place", place, 2048},
