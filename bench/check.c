@@ -1,4 +1,4 @@
-/* check.c: K and rows of LIST WIDTH DIRECTION (0 forward, 1 inverse): makes everything ready for all rows and then does the calls of the
+/* check.c: K and rows of LIST WIDTH DIRECTION (0 forward, 1 inverse, 2 heard from 200 to 300 Hz at 16,000): makes everything ready for all rows and then does the calls of the
  * first K, so that the instructions of row K are the difference of two runs. It brings the memcpy and memset that the library calls, since
  * a C library picks its own by the processor. */
 #include "ladlespindle.h"
@@ -39,8 +39,21 @@ void *memset(void *to, int byte, size_t bytes)
 typedef struct {
     ladlespindle_record plan;
     size_t width, stages, ends;
-    int inverse;
+    char direction;
 } row;
+
+/* The number of a call's refusal. */
+static uint32_t called(row r, const float *input, float *output, float *scratch, const float *stage, const float *end)
+{
+    size_t n = r.plan.n;
+    switch (r.direction) {
+    case '0': return ladlespindle_forward(r.plan, r.width, input, n, output, n + 2, scratch, 6 * n, stage, r.stages, end, r.ends).number;
+    case '1': return ladlespindle_inverse(r.plan, r.width, input, n + 2, output, n, scratch, 6 * n, stage, r.stages, end, r.ends).number;
+    default:
+        return ladlespindle_hear(r.plan, r.width, input, n, output, n + 2, scratch, 6 * n, stage, r.stages, end, r.ends, (n + 79) / 80, 3 * n / 160, 225)
+            .number;
+    }
+}
 
 int main(int count, char **words)
 {
@@ -55,7 +68,7 @@ int main(int count, char **words)
         for (size_t i = 0; i < length; i++) list[i] = (uint8_t)(words[2 + 3 * k][i] - '0');
         rows[k].plan = ladlespindle_plan(list, length);
         rows[k].width = strtoul(words[3 + 3 * k], NULL, 10);
-        rows[k].inverse = words[4 + 3 * k][0] == '1';
+        rows[k].direction = words[4 + 3 * k][0];
         rows[k].stages = 2 * ladlespindle_stage_twiddles(list, length);
         rows[k].ends = 2 * ladlespindle_end_twiddles(list, length);
     }
@@ -63,13 +76,7 @@ int main(int count, char **words)
     for (size_t i = 0; i < 40000; i++) stage[i] = (float)(i * 31 % 97) / 97 - 0.5f;
     for (size_t i = 0; i < 4096; i++) end[i] = (float)(i * 29 % 89) / 89 - 0.5f;
     size_t calls = strtoul(words[1], NULL, 10);
-    for (size_t k = 0; k < n && k < calls; k++) {
-        row r = rows[k];
-        size_t length = r.plan.n;
-        ladlespindle_answer answer =
-            r.inverse ? ladlespindle_inverse(r.plan, r.width, input, length + 2, output, length, scratch, 6 * length, stage, r.stages, end, r.ends)
-                      : ladlespindle_forward(r.plan, r.width, input, length, output, length + 2, scratch, 6 * length, stage, r.stages, end, r.ends);
-        if (answer.number != 0) return 1;
-    }
+    for (size_t k = 0; k < n && k < calls; k++)
+        if (called(rows[k], input, output, scratch, stage, end) != 0) return 1;
     return 0;
 }

@@ -46,6 +46,7 @@ static void staged(void)
     kept = ladlespindle_stage(plan, last, width, input, plan.n, output, plan.n, stage, last ? 2 * (plan.half / radix * (radix - 1)) : 0).number;
 }
 static void forward(void) { kept = ladlespindle_forward(plan, width, input, plan.n, output, plan.n + 2, scratch, 6 * plan.n, stage, stages, end, ends).number; }
+static void heard(void) { kept = ladlespindle_hear(plan, width, input, plan.n, output, plan.n + 2, scratch, 6 * plan.n, stage, stages, end, ends, 0, plan.half, 1).number; }
 static void inverse(void) { kept = ladlespindle_inverse(plan, width, input, plan.n + 2, output, plan.n, scratch, 6 * plan.n, stage, stages, end, ends).number; }
 static void powered(void) { kept = ladlespindle_power(input, plan.n + 2, 0, plan.half).number; }
 static void remained(void) { kept = ladlespindle_remainder_run(plan, 65537, 1, cells, plan.half, others, plan.half).number; }
@@ -58,7 +59,7 @@ int main(void)
         void (*call)(void);
         size_t most;
     } calls[] = {{"plan", planned, 0},          {"scale", scaled, 0},    {"accepts", accepted, 0}, {"turn", turned, 0},
-                 {"fill_forward", filled, 0},   {"stage", staged, 0},    {"forward", forward, 0},  {"inverse", inverse, 0},
+                 {"fill_forward", filled, 0},   {"stage", staged, 0},    {"forward", forward, 0},  {"inverse", inverse, 0}, {"hear", heard, 0},
                  {"power", powered, 0},         {"remainder_run", remained, 0}};
     size_t number = sizeof calls / sizeof *calls;
     touched(nothing);
