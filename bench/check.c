@@ -1,6 +1,6 @@
-/* check.c: K and rows of LIST WIDTH DIRECTION (0 forward, 1 inverse, 2 heard from 200 to 300 Hz at 16,000): makes everything ready for all rows and then does the calls of the
- * first K, so that the instructions of row K are the difference of two runs. It brings the memcpy and memset that the library calls, since
- * a C library picks its own by the processor. */
+/* check.c: CALLS LIST WIDTH DIRECTION (0 forward, 1 inverse, 2 heard from 200 to 300 Hz at 16,000): makes everything ready for a call and does
+ * it so often, so that its instructions are the difference of two runs. It brings the memcpy and memset that the library calls, since a C
+ * library picks its own by the processor. */
 #include "ladlespindle.h"
 #include <stdlib.h>
 #include <string.h>
@@ -35,7 +35,7 @@ void *memset(void *to, int byte, size_t bytes)
     return start;
 }
 
-/* a row made ready */
+/* A call made ready. */
 typedef struct {
     ladlespindle_record plan;
     size_t width, stages, ends;
@@ -58,25 +58,20 @@ static uint32_t called(row r, const float *input, float *output, float *scratch,
 int main(int count, char **words)
 {
     static float input[8194], output[8194], scratch[6 * 8192], stage[40000], end[4096];
-    static row rows[64];
-    size_t n = (size_t)(count - 2) / 3;
-    if (count < 2 || n > 64) return 2;
-    for (size_t k = 0; k < n; k++) {
-        uint8_t list[16];
-        size_t length = strlen(words[2 + 3 * k]);
-        if (length > sizeof list) return 2;
-        for (size_t i = 0; i < length; i++) list[i] = (uint8_t)(words[2 + 3 * k][i] - '0');
-        rows[k].plan = ladlespindle_plan(list, length);
-        rows[k].width = strtoul(words[3 + 3 * k], NULL, 10);
-        rows[k].direction = words[4 + 3 * k][0];
-        rows[k].stages = 2 * ladlespindle_stage_twiddles(list, length);
-        rows[k].ends = 2 * ladlespindle_end_twiddles(list, length);
-    }
-    for (size_t i = 0; i < 8194; i++) input[i] = (float)(i * 77 % 101) - 50;
-    for (size_t i = 0; i < 40000; i++) stage[i] = (float)(i * 31 % 97) / 97 - 0.5f;
-    for (size_t i = 0; i < 4096; i++) end[i] = (float)(i * 29 % 89) / 89 - 0.5f;
-    size_t calls = strtoul(words[1], NULL, 10);
-    for (size_t k = 0; k < n && k < calls; k++)
-        if (called(rows[k], input, output, scratch, stage, end) != 0) return 1;
+    uint8_t list[16];
+    row r;
+    if (count != 5 || strlen(words[2]) > sizeof list) return 2;
+    size_t calls = strtoul(words[1], NULL, 10), length = strlen(words[2]);
+    for (size_t i = 0; i < length; i++) list[i] = (uint8_t)(words[2][i] - '0');
+    r.plan = ladlespindle_plan(list, length);
+    r.width = strtoul(words[3], NULL, 10);
+    r.direction = words[4][0];
+    r.stages = 2 * ladlespindle_stage_twiddles(list, length);
+    r.ends = 2 * ladlespindle_end_twiddles(list, length);
+    for (size_t i = 0; i < r.plan.n + 2; i++) input[i] = (float)(i * 77 % 101) - 50;
+    for (size_t i = 0; i < r.stages; i++) stage[i] = (float)(i * 31 % 97) / 97 - 0.5f;
+    for (size_t i = 0; i < r.ends; i++) end[i] = (float)(i * 29 % 89) / 89 - 0.5f;
+    for (; calls > 0; calls--)
+        if (called(r, input, output, scratch, stage, end) != 0) return 1;
     return 0;
 }

@@ -9,7 +9,8 @@
  *
  * 960 samples at 16,000 Hz have bins of 16.67 Hz: the band is the bins 12 to 18, and hum of 50, 100 and 150 Hz, the bins 3, 6 and 9, leaks
  * nothing into it. Mains that are 0.5 Hz off leak less than the threshold while each of the three is below 0.32 of full scale, and under 1/4
- * of them a tone at a bin is heard from 1/26 of full scale on. With 1,680 samples, where 50 Hz is no bin, hum of 0.12 can feign bees. Hum of 200, 250 and 300 Hz is in the band, and brakes. */
+ * of them a tone at a bin is heard from 1/26 of full scale on. With 1,680 samples, where 50 Hz is no bin, hum of 0.12 can feign bees. Hum of
+ * 200, 250 and 300 Hz is in the band, and brakes. */
 #include "ladlespindle_hive.h"
 #include "sounds.h"
 #include <stdio.h>

@@ -3,6 +3,7 @@ use Rattle.sequences.proofs.Basics.{_≡_, refl, sym, ap, ap₂, _∙_, subst, 
 use Rattle.sequences.proofs.Basics.{mul-le-mul, le-of-mul-le-mul-right, arith, Bool, true, false, not, cond, lit≤, lit<, ltb, eqb, pow-pos}
 use lib.Ieee.{Float, nan, inf, fin, Format, binary32, units, odd, round, add, sub, mul, neg, unlike, prec, emax, low, up, down, ofBits}
 use lib.Ieee.Fits.{round-is}
+use Rattle.turn.specs.Turns.{0·5}
 use Rattle.turn.specs.declared.Turn.the-variants.{Quarter}
 use Rattle.floats.specs.Complexes.{cx, plus, minus, conjugate}
 use Rattle.floats.specs.declared.complex.Complex.{Complex}
@@ -16,7 +17,7 @@ use Rattle.accuracy.proofs.Conjugate.{conjG}
 use Rattle.accuracy.proofs.Floats.{plusC, mulC, turnedC}
 use Rattle.accuracy.proofs.Plane.{triangle, Same, off-same, off-eq, off-more, off-sym, off-trans, off-plus, off-scale, off-unscale, off-times, disc-near}
 use Rattle.accuracy.proofs.Plane.{abs-flip, same-60, disc-unscale, disc-more, disc-scale, disc-plus, disc-same, disc-times}
-use Rattle.accuracy.proofs.Rounded.{half, corner}
+use Rattle.accuracy.proofs.Rounded.{corner}
 use Rattle.accuracy.proofs.Rounds.{Around}
 use Rattle.accuracy.proofs.Turned.{turn-within, turn-size, times-off}
 use Rattle.accuracy.proofs.Turning.{same-self, same-scale-right}
@@ -65,7 +66,7 @@ mirrorC : Complex → Complex
 mirrorC b = record { re = neg (b .re); im = b .im }
 
 unfoldable pub halfC : Complex → Complex
-halfC q = record { re = mul binary32 half (q .re); im = mul binary32 half (q .im) }
+halfC q = record { re = mul binary32 0·5 (q .re); im = mul binary32 0·5 (q .im) }
 
 -- the product that is added to the half, or taken from it
 turn-is : (a b t : Complex) → mixed (plus a b) (minus a b) t ≡ mulC (turnedC Quarter (plusC a (mirrorC b))) t
@@ -101,18 +102,19 @@ half-part K H v α h x p n = (
   le-of-mul-le-mul-right {k = v} (le-trans (le-of-eq (omega arith)) (le-trans (n .1) (le-of-eq (omega arith)))) p,
 )
 
-half-near : (x : Float) → Held binary32 x → absZ (val binary32 x) ≤ 2 ^ 250 → Held binary32 (mul binary32 half x)
-    × NearZ (absZ (val binary32 x) + 2 * 2 ^ 23) (scale (2 * 2 ^ 24) (val binary32 (mul binary32 half x))) (scale (2 ^ 24) (val binary32 x))
+half-near : (x : Float) → Held binary32 x → absZ (val binary32 x) ≤ 2 ^ 250 → Held binary32 (mul binary32 0·5 x)
+    × NearZ (absZ (val binary32 x) + 2 * 2 ^ 23) (scale (2 * 2 ^ 24) (val binary32 (mul binary32 0·5 x))) (scale (2 ^ 24) (val binary32 x))
+unfolding ofBits
 half-near x hx l =
-    let one : mag binary32 half ≤ 2 ^ 149 = lit≤ tt in
-    let le : mag binary32 half * mag binary32 x ≤ 1 * 2 ^ 250 * 2 ^ 149 =
+    let one : mag binary32 0·5 ≤ 2 ^ 149 = lit≤ tt in
+    let le : mag binary32 0·5 * mag binary32 x ≤ 1 * 2 ^ 250 * 2 ^ 149 =
     le-trans (mul-le-mul one (le-trans (le-of-eq (mag-abs binary32 x)) l)) (le-of-eq (swap (2 ^ 149) (2 ^ 250))) in
-    let r = mul-rounds binary32 half x 1 250 refl hx (lit≤ tt) (lit< tt) le .0 in
-    let e : absZ (timesZ (val binary32 half) (val binary32 x)) ≡ 2 ^ 148 * absZ (val binary32 x) = abs-times (val binary32 half) (val binary32 x) in (
+    let r = mul-rounds binary32 0·5 x 1 250 refl hx (lit≤ tt) (lit< tt) le .0 in
+    let e : absZ (timesZ (val binary32 0·5) (val binary32 x)) ≡ 2 ^ 148 * absZ (val binary32 x) = abs-times (val binary32 0·5) (val binary32 x) in (
       r .held,
-      half-part (2 ^ 24) (2 ^ 23) (2 ^ 148) (absZ (val binary32 x)) (val binary32 (mul binary32 half x)) (val binary32 x) (pow-pos 148)
-          (subst (λ (m : ℕ). NearZ (m + 2 ^ 23 * (2 * 2 ^ 148)) (scale (2 ^ 24 * (2 * 2 ^ 148)) (val binary32 (mul binary32 half x)))
-          (scale (2 ^ 24) (timesZ (val binary32 half) (val binary32 x)))) e (r .near)),
+      half-part (2 ^ 24) (2 ^ 23) (2 ^ 148) (absZ (val binary32 x)) (val binary32 (mul binary32 0·5 x)) (val binary32 x) (pow-pos 148)
+          (subst (λ (m : ℕ). NearZ (m + 2 ^ 23 * (2 * 2 ^ 148)) (scale (2 ^ 24 * (2 * 2 ^ 148)) (val binary32 (mul binary32 0·5 x)))
+          (scale (2 ^ 24) (timesZ (val binary32 0·5) (val binary32 x)))) e (r .near)),
     )
   where
     swap : (a b : ℕ) → a * b ≡ 1 * b * a
@@ -130,8 +132,8 @@ half-off q m p small =
         inside =
             triangle (absZ (val binary32 (q .re))) (absZ (val binary32 (q .im))) (2 * 2 ^ 23) (2 * 2 ^ 23) m (2 * (2 * 2 ^ 23)) _ _ (p .disc .inside)
             (corner (2 * 2 ^ 23))
-            (near-abs _ (scale (2 * 2 ^ 24) (val binary32 (mul binary32 half (q .re)))) (scale (2 ^ 24) (val binary32 (q .re))) (a .1))
-            (near-abs _ (scale (2 * 2 ^ 24) (val binary32 (mul binary32 half (q .im)))) (scale (2 ^ 24) (val binary32 (q .im))) (b .1));
+            (near-abs _ (scale (2 * 2 ^ 24) (val binary32 (mul binary32 0·5 (q .re)))) (scale (2 ^ 24) (val binary32 (q .re))) (a .1))
+            (near-abs _ (scale (2 * 2 ^ 24) (val binary32 (mul binary32 0·5 (q .im)))) (scale (2 ^ 24) (val binary32 (q .im))) (b .1));
       },
     )
 

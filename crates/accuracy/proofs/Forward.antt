@@ -12,7 +12,7 @@ use Rattle.schedule.specs.Stage.{stage, run, plain}
 use Rattle.schedule.proofs.Cells.{length-stage}
 use Rattle.schedule.proofs.Plans.{use-length, use-product}
 use Rattle.turn.specs.Calls.{part}
-use Rattle.turn.specs.Turns.{turnOf, wordsOf}
+use Rattle.turn.specs.Turns.{0·5, turnOf, wordsOf}
 use Rattle.twiddle.specs.Calls.{Fills}
 use Rattle.end_twiddles.specs.declared.inner.ends.Direction.the-variants.{Forward}
 use Rattle.twiddle.proofs.Theorems.{filled-end}
@@ -41,7 +41,7 @@ use Rattle.accuracy.proofs.Bins.{bins-near}
 use Rattle.accuracy.proofs.Dft.{sumN, dft, paired}
 use Rattle.accuracy.proofs.Filled.{Circled, circled}
 use Rattle.accuracy.proofs.Plane.{off-eq}
-use Rattle.accuracy.proofs.Rounded.{half, words-halved}
+use Rattle.accuracy.proofs.Rounded.{words-halved}
 use Rattle.accuracy.proofs.Run.{run-off, run-held}
 use Rattle.accuracy.proofs.Stages.{error, error-small}
 use Rattle.accuracy.proofs.Sums.{sum-equal, sumN-least}
@@ -104,8 +104,8 @@ module _ (p : Record) (W : ℕ) (lent : Slices) (v : Verdict) (tw : Slices) (fil
       let many : q ≤ endCount (p .n) = rw (told .twice) (pairs-lent h q lq) in
       let at = filled-end Forward p W lent v tw fills filled nan q pq many in
       let words = wordsOf (turnOf (part q (p .n))) in
-      let is : endLent (tw .1) q ≡ cx (mul binary32 half (words .0)) (mul binary32 half (words .1)) = ap₂ cx (at .first) (at .second) in
-      subst (HalfClose (house (d * q))) (sym is) (subst (λ (w : Gauss). HalfClose w (cx (mul binary32 half (words .0)) (mul binary32 half (words .1))))
+      let is : endLent (tw .1) q ≡ cx (mul binary32 0·5 (words .0)) (mul binary32 0·5 (words .1)) = ap₂ cx (at .first) (at .second) in
+      subst (HalfClose (house (d * q))) (sym is) (subst (λ (w : Gauss). HalfClose w (cx (mul binary32 0·5 (words .0)) (mul binary32 0·5 (words .1))))
       (told .turn-at q) (words-halved (part q (p .n))))
 
   -- ---- the samples

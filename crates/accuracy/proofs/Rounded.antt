@@ -3,8 +3,7 @@ use Rattle.sequences.proofs.Basics.{_≡_, refl, sym, ap, _∙_, subst, subst�
 use Rattle.sequences.proofs.Basics.{le-trans, le-of-eq, lt-of-le-of-lt, lt-of-lt-of-le, mul-le-mul-right, mul-le-mul-left, pow-suc, div-div-eq-div-mul}
 use Rattle.sequences.proofs.Basics.{le-div-iff-mul-le, not-le-of-lt, mod-eq-of-lt, mod-lt, zero-lt-suc, arith, decLe, Bool, true, false, dite, lit≤, lit<}
 use Rattle.sequences.proofs.Basics.{pow-pos, pow-mono}
-use lib.IntN.{negsuc}
-use lib.Ieee.{Float, fin, binary32, round, mul, unlike, size, ofBits}
+use lib.Ieee.{Float, binary32, round, mul, unlike, size, ofBits}
 use lib.Ieee.Digits.{size-lt}
 use lib.Ieee.Fits.{kept-lt, nearest-le}
 use lib.Ieee.Exact.{HasValue, round-exact}
@@ -12,7 +11,7 @@ use lib.Ieee.Order.{drop, kept}
 use lib.Ieee.Scale.{grid, round-same}
 use Rattle.schedule.specs.Stage.{Part}
 use Rattle.house.specs.Entries.{entryOf}
-use Rattle.turn.specs.Turns.{indexOf, rounded, quartersOn, numbersAt, quarters, turnAt, turnOf, wordsOf}
+use Rattle.turn.specs.Turns.{0·5, indexOf, rounded, quartersOn, numbersAt, quarters, turnAt, turnOf, wordsOf}
 use Rattle.turn.proofs.Lookup.{turn-whole, turn-numbers}
 use Rattle.turn.proofs.Theorems.{words-are}
 use Rattle.floats.specs.Complexes.{cx}
@@ -30,10 +29,6 @@ use Rattle.accuracy.proofs.Rounding.{grid-near}
 use Rattle.accuracy.proofs.Turning.{same-self}
 use Rattle.accuracy.proofs.Turns.{Close, Faithful, HalfClose}
 use Rattle.accuracy.proofs.Values.{round-grid, val-is, held-is, carry}
-
--- one half
-abbrev pub half : Float
-half = fin false 1 (negsuc 0)
 
 -- ---- q * 2 ^ k with k above 0 and q up to 2 ^ 24 is twice a number that an f32 holds
 
@@ -154,22 +149,22 @@ part-rounded m a small =
 
 -- and half of it is exactly that
 HalfOf : Float → Type 0
-HalfOf x = Held binary32 (mul binary32 half x) × NearZ 0 (scale 2 (val binary32 (mul binary32 half x))) (val binary32 x)
+HalfOf x = Held binary32 (mul binary32 0·5 x) × NearZ 0 (scale 2 (val binary32 (mul binary32 0·5 x))) (val binary32 x)
 
 part-halved : (m : Bool) (a : ℕ) → absZ (signed m a) ≤ 2 ^ 61 → HalfOf (rounded m a)
-unfolding HalfOf
+unfolding HalfOf ofBits
 part-halved m a small =
     let x = rounded m a in let w = word m a (size-of m a (2 ^ 61) small) in let s = w .s in let g = w .g in
     let H = w .parts in let v = H .v in
-    let is : mul binary32 half x ≡ round binary32 (unlike false s) v (2 ^ 149) =
-    mul-at binary32 half x false s 1 g 2 (2 ^ 149) (lit< tt) (pow-pos 149) (refl, refl) (w .has)
+    let is : mul binary32 0·5 x ≡ round binary32 (unlike false s) v (2 ^ 149) =
+    mul-at binary32 0·5 x false s 1 g 2 (2 ^ 149) (lit< tt) (pow-pos 149) (refl, refl) (w .has)
     ∙ round-same binary32 (unlike false s) (1 * g) (2 * 2 ^ 149) v (2 ^ 149) (lit< tt) (pow-pos 149)
     (ap (λ (n : ℕ). 1 * n * 2 ^ 149) (H .twice) ∙ order v (2 ^ 149)) in
     let le : v ≤ 2 * 2 ^ 149 = le-trans (less v g (H .twice)) (w .stays) in
     let r : HasValue (round binary32 (unlike false s) v (2 ^ 149)) (unlike false s) v (2 ^ 149) =
     round-exact binary32 (unlike false s) v (2 ^ 149) (H .q) (H .j) (pow-pos 149) (H .small) (lt-of-le-of-lt (le-trans (le-of-eq (sym (H .same))) le) (lit< tt))
     (ap (λ (n : ℕ). n * 2 ^ 149) (H .same)) in
-    let z = mul binary32 half x in
+    let z = mul binary32 0·5 x in
     let r' : HasValue z (unlike false s) v (2 ^ 149) = subst (λ (f : Float). HasValue f (unlike false s) v (2 ^ 149)) (sym is) r in (
       held-is binary32 z (unlike false s) v r',
       subst₂ (λ (i k : Signed). NearZ 0 (scale 2 i) k) (sym (val-is binary32 z (unlike false s) v r'))
@@ -224,7 +219,7 @@ abbrev numbers : ℕ → Complex
 numbers index = cx (numbersAt index .0) (numbersAt index .1)
 
 abbrev halves : Complex → Complex
-halves t = cx (mul binary32 half (t .re)) (mul binary32 half (t .im))
+halves t = cx (mul binary32 0·5 (t .re)) (mul binary32 0·5 (t .im))
 
 doubled : (K G : ℕ) (x y : Signed) → NearZ 0 (scale 2 x) y → NearZ 0 (scale (K * G) y) (scale (K * (2 * G)) x)
 doubled K G x y e = omega (arith, mul-le-mul-left (K * G) (e .0), mul-le-mul-left (K * G) (e .1))
@@ -238,8 +233,8 @@ half-close w t cl re im =
       off =
           off-same (2 ^ 149 * (2 ^ 60 + 2)) (scaleG (2 ^ 24 * 2 ^ 60) (valC t)) (scaleG (2 ^ 24 * 2 ^ 149) w) (scaleG (2 ^ 24 * (2 * 2 ^ 60)) (valC (halves t)))
           (scaleG (2 ^ 24 * 2 ^ 149) w) (
-            doubled (2 ^ 24) (2 ^ 60) (val binary32 (mul binary32 half (t .re))) (val binary32 (t .re)) (re .1),
-            doubled (2 ^ 24) (2 ^ 60) (val binary32 (mul binary32 half (t .im))) (val binary32 (t .im)) (im .1),
+            doubled (2 ^ 24) (2 ^ 60) (val binary32 (mul binary32 0·5 (t .re))) (val binary32 (t .re)) (re .1),
+            doubled (2 ^ 24) (2 ^ 60) (val binary32 (mul binary32 0·5 (t .im))) (val binary32 (t .im)) (im .1),
           )
           (same-self (scaleG (2 ^ 24 * 2 ^ 149) w)) (cl .off);
     }
@@ -305,6 +300,6 @@ module _ (a : Part) where
   words-close = subst (λ (w : Float × Float). Close (house (indexOf a)) (cx (w .0) (w .1))) (sym (words-are a)) (numbers-close (indexOf a) inside)
 
   -- and their halves
-  pub words-halved : HalfClose (house (indexOf a)) (cx (mul binary32 half (wordsOf (turnOf a) .0)) (mul binary32 half (wordsOf (turnOf a) .1)))
-  words-halved = subst (λ (w : Float × Float). HalfClose (house (indexOf a)) (cx (mul binary32 half (w .0)) (mul binary32 half (w .1)))) (sym (words-are a))
+  pub words-halved : HalfClose (house (indexOf a)) (cx (mul binary32 0·5 (wordsOf (turnOf a) .0)) (mul binary32 0·5 (wordsOf (turnOf a) .1)))
+  words-halved = subst (λ (w : Float × Float). HalfClose (house (indexOf a)) (cx (mul binary32 0·5 (w .0)) (mul binary32 0·5 (w .1)))) (sym (words-are a))
       (numbers-halved (indexOf a) inside)

@@ -7,6 +7,7 @@ use lib.Ieee.{Float, nan, inf, fin, binary32, up, round, sum, add, sub, neg, ofB
 use lib.Ieee.Fits.{and-l, and-r}
 use lib.Ieee.Exact.{HasValue}
 use lib.Ieee.Back.{round-whole}
+use Rattle.turn.specs.Turns.{+0}
 use Rattle.finite.proofs.Fractions.{add-at}
 use Rattle.finite.specs.Whole.{signed, IsWhole, Small}
 
@@ -226,7 +227,7 @@ module _ {n : ℕ} {x : ℕ → ℤ} (small : Small n x) {y z : Float} {a b : Su
 pub held-neg : {x : ℕ → ℤ} {y : Float} {a : Sum} → Held x y a → Held x (neg y) (minus a)
 held-neg {x} {y} {a} v = record { whole = neg-whole y (value x a) (v .whole) }
 
-pub held-zero : (x : ℕ → ℤ) → Held x (ofBits binary32 0) none
+pub held-zero : (x : ℕ → ℤ) → Held x +0 none
 unfolding ofBits
 held-zero x = record { whole = (refl, refl) }
 
