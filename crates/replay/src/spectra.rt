@@ -73,25 +73,75 @@ fn differing(plan: Record, is_whole: bool, is_forward: bool, lent: usize, fd: i3
         return CASES;
     }
     let mut own = room();
-    follow(plan, is_whole, is_forward, &mut own[..lent], fd)
+    let mut drawn = room();
+    let mut packed = room();
+    let mut input = room();
+    let mut output = room();
+    let mut scratch = room();
+    follow(
+        plan,
+        is_whole,
+        is_forward,
+        &mut own[..lent],
+        &mut drawn[..lent],
+        &mut packed[..lent],
+        &mut input,
+        &mut output,
+        &mut scratch,
+        fd,
+    )
 }
 
-// The same, with room for the original's twiddles.
-fn follow(plan: Record, is_whole: bool, is_forward: bool, own: &mut [f32], fd: i32) -> u64
+// The same, with room for the original's twiddles, for drawn ones and for those that are packed, and for the words of a transform.
+fn follow(
+    plan: Record,
+    is_whole: bool,
+    is_forward: bool,
+    own: &mut [f32],
+    drawn: &mut [f32],
+    packed: &mut [f32],
+    input: &mut [f32],
+    output: &mut [f32],
+    scratch: &mut [f32],
+    fd: i32,
+) -> u64
     ensures { λ r. ⌜ r ≤ 126 ⌝ }
 {
     let are_words = read(fd, own);
     let mut differ: u64 = 0;
     let mut k: u64 = 0;
     while k < CASES {
-        differ += case(plan, is_whole, is_forward, own, fd);
+        differ += case(
+            plan,
+            is_whole,
+            is_forward,
+            own,
+            drawn,
+            packed,
+            input,
+            output,
+            scratch,
+            fd,
+        );
         k += 1;
     }
     if are_words { differ } else { CASES }
 }
 
-// How many answers of the next line are not the library's; a line that cannot be asked counts as one.
-fn case(plan: Record, is_whole: bool, is_forward: bool, own: &[f32], fd: i32) -> u64
+// How many answers of the next line are not the library's, which is lent the original's twiddles or some that are drawn from the line's
+// seed; a line that cannot be asked counts as one.
+fn case(
+    plan: Record,
+    is_whole: bool,
+    is_forward: bool,
+    own: &[f32],
+    drawn: &mut [f32],
+    packed: &mut [f32],
+    input: &mut [f32],
+    output: &mut [f32],
+    scratch: &mut [f32],
+    fd: i32,
+) -> u64
     ensures { λ r. ⌜ r ≤ 3 ⌝ }
 {
     let size = if is_whole { 37 } else { 24 };
@@ -101,32 +151,35 @@ fn case(plan: Record, is_whole: bool, is_forward: bool, own: &[f32], fd: i32) ->
     }
     let seed = number(&line[4..12], true);
     if line[0] == b'R' {
-        return at_widths(plan, is_whole, is_forward, line, seed, own);
-    }
-    let words = own.len();
-    if words > 49184 {
-        return 1;
+        return at_widths(
+            plan,
+            is_whole,
+            is_forward,
+            line,
+            seed,
+            own,
+            packed,
+            input,
+            output,
+            scratch,
+        );
     }
     if line[0] != b'D' {
         return 1;
     }
-    let mut lent = room();
-    drawn(plan, is_whole, is_forward, line, seed, &mut lent[..words])
-}
-
-// The same of a case that is lent twiddles drawn from its seed.
-fn drawn(
-    plan: Record,
-    is_whole: bool,
-    is_forward: bool,
-    line: [u8; 37],
-    seed: usize,
-    lent: &mut [f32],
-) -> u64
-    ensures { λ r. ⌜ r ≤ 3 ⌝ }
-{
-    let next = fill(lent, b'T', seed);
-    at_widths(plan, is_whole, is_forward, line, next, lent)
+    let next = fill(drawn, b'T', seed);
+    at_widths(
+        plan,
+        is_whole,
+        is_forward,
+        line,
+        next,
+        drawn,
+        packed,
+        input,
+        output,
+        scratch,
+    )
 }
 
 // How many answers of a case are not the library's.
@@ -137,15 +190,55 @@ fn at_widths(
     line: [u8; 37],
     seed: usize,
     lent: &[f32],
+    packed: &mut [f32],
+    input: &mut [f32],
+    output: &mut [f32],
+    scratch: &mut [f32],
 ) -> u64
     ensures { λ r. ⌜ r ≤ 3 ⌝ }
 {
-    let one = differs(plan, is_whole, is_forward, 1, line, seed, lent);
+    let one = differs(
+        plan,
+        is_whole,
+        is_forward,
+        1,
+        line,
+        seed,
+        lent,
+        packed,
+        input,
+        output,
+        scratch,
+    );
     if !is_whole {
         return one;
     }
-    let two = differs(plan, is_whole, is_forward, 2, line, seed, lent);
-    let four = differs(plan, is_whole, is_forward, 4, line, seed, lent);
+    let two = differs(
+        plan,
+        is_whole,
+        is_forward,
+        2,
+        line,
+        seed,
+        lent,
+        packed,
+        input,
+        output,
+        scratch,
+    );
+    let four = differs(
+        plan,
+        is_whole,
+        is_forward,
+        4,
+        line,
+        seed,
+        lent,
+        packed,
+        input,
+        output,
+        scratch,
+    );
     one + two + four
 }
 
@@ -158,6 +251,10 @@ fn differs(
     line: [u8; 37],
     seed: usize,
     lent: &[f32],
+    packed: &mut [f32],
+    input: &mut [f32],
+    output: &mut [f32],
+    scratch: &mut [f32],
 ) -> u64
     ensures { λ r. ⌜ r ≤ 1 ⌝ }
 {
@@ -175,23 +272,18 @@ fn differs(
     if more > 9 {
         return 1;
     }
-    let words = lent.len();
-    if words > 49184 {
+    let reads = 2 * plan.half + 2;
+    if reads > input.len() {
         return 1;
     }
-    let reads = 2 * plan.half + 2;
     let writes = if is_whole { plan.n + more } else { reads };
-    if writes > 49184 {
+    if writes > output.len() {
         return 1;
     }
     let rest = 6 * plan.n + 2 * more;
-    if rest > 49184 {
+    if rest > scratch.len() {
         return 1;
     }
-    let mut packed = room();
-    let mut input = room();
-    let mut output = room();
-    let mut scratch = room();
     leaves_other(
         plan,
         is_whole,
@@ -200,14 +292,14 @@ fn differs(
         line,
         seed,
         lent,
-        &mut packed[..words],
+        packed,
         &mut input[..reads],
         &mut output[..writes],
         &mut scratch[..rest],
     )
 }
 
-// The same, with room for the words.
+// The same, with as many words as the transform or the step takes.
 fn leaves_other(
     plan: Record,
     is_whole: bool,
