@@ -40,10 +40,10 @@ typedef struct {
     ladlespindle_record plan;
     size_t width, stages, ends;
     char direction;
-} row;
+} ready;
 
 /* The number of a call's refusal. */
-static uint32_t called(row r, const float *input, float *output, float *scratch, const float *stage, const float *end)
+static uint32_t called(ready r, const float *input, float *output, float *scratch, const float *stage, const float *end)
 {
     size_t n = r.plan.n;
     switch (r.direction) {
@@ -59,7 +59,7 @@ int main(int count, char **words)
 {
     static float input[8194], output[8194], scratch[6 * 8192], stage[40000], end[4096];
     uint8_t list[16];
-    row r;
+    ready r;
     if (count != 5 || strlen(words[2]) > sizeof list) return 2;
     size_t calls = strtoul(words[1], NULL, 10), length = strlen(words[2]);
     for (size_t i = 0; i < length; i++) list[i] = (uint8_t)(words[2][i] - '0');

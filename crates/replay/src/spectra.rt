@@ -182,7 +182,7 @@ fn case(
     )
 }
 
-// How many answers of a case are not the library's.
+// How many answers of a case are not the library's: a step is asked once, a transform at every width.
 fn at_widths(
     plan: Record,
     is_whole: bool,
@@ -197,49 +197,26 @@ fn at_widths(
 ) -> u64
     ensures { λ r. ⌜ r ≤ 3 ⌝ }
 {
-    let one = differs(
-        plan,
-        is_whole,
-        is_forward,
-        1,
-        line,
-        seed,
-        lent,
-        packed,
-        input,
-        output,
-        scratch,
-    );
-    if !is_whole {
-        return one;
+    let widths = [1usize, 2, 4];
+    let mut differ: u64 = 0;
+    let mut k: usize = 0;
+    while k < 3 && (is_whole || k == 0) {
+        differ += differs(
+            plan,
+            is_whole,
+            is_forward,
+            widths[k],
+            line,
+            seed,
+            lent,
+            packed,
+            input,
+            output,
+            scratch,
+        );
+        k += 1;
     }
-    let two = differs(
-        plan,
-        is_whole,
-        is_forward,
-        2,
-        line,
-        seed,
-        lent,
-        packed,
-        input,
-        output,
-        scratch,
-    );
-    let four = differs(
-        plan,
-        is_whole,
-        is_forward,
-        4,
-        line,
-        seed,
-        lent,
-        packed,
-        input,
-        output,
-        scratch,
-    );
-    one + two + four
+    differ
 }
 
 // 1 where the library does not leave at a width what a line shows, and 0 where it does.

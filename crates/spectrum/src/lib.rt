@@ -1,6 +1,7 @@
 // Spectra of real samples: forward and inverse.
 pub mod inner;
 
+use inner::check::LOUDEST;
 use inner::check::is_bins;
 use inner::check::lent;
 use plan::Record;
@@ -29,7 +30,7 @@ pub fn forward(
         is_input,
         is_output,
         scratch.len(),
-        4294967296.0,
+        LOUDEST,
         input,
         stage_twiddles,
         end_twiddles,

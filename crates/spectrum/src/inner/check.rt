@@ -13,6 +13,9 @@ ghost use lib.Dec.{eqb};
 ghost use Rattle.scan.specs.Scan.{bound};
 ghost use Rattle.spectrum.specs.Calls.{sizeVerdict, numberVerdict, lentVerdict, forwardVerdict};
 
+// 2^32: samples are at most this.
+pub const LOUDEST: f32 = 4294967296.0;
+
 // Whether so many words are those of h + 1 bins.
 pub fn is_bins(words: usize, h: usize) -> bool
     ensures { λ r. ⌜ r ≡ eqb words (2 * (h + 1)) ⌝ }
@@ -129,7 +132,7 @@ pub fn lent_samples(
         is_input,
         is_output,
         scratch,
-        4294967296.0,
+        LOUDEST,
         input,
         stage,
         end,
