@@ -22,7 +22,7 @@ use Rattle.accuracy.specs.House.{exactAt, house}
 use Rattle.accuracy.specs.Value.{Near, Signed, signed, scale, absZ, NearZ, val, Held}
 use Rattle.accuracy.proofs.Circle.{below, spin}
 use Rattle.accuracy.proofs.Complexes.{part-re, part-im, near-abs}
-use Rattle.finite.proofs.Fractions.{mul-at}
+use Rattle.fractions.proofs.Fractions.{mul-at}
 use Rattle.accuracy.proofs.House.{turns, house-whole}
 use Rattle.accuracy.proofs.Plane.{triangle, disc-more, off-same}
 use Rattle.accuracy.proofs.Rounding.{grid-near}

@@ -8,7 +8,8 @@ use lib.Ieee.Fits.{two, two-le-pos}
 use lib.Ieee.Nearest.{closest}
 use lib.Ieee.Order.{drop, kept}
 use lib.Ieee.Scale.{grid}
-use Rattle.finite.proofs.Rounding.{closest-whole, above, twice}
+use Rattle.fractions.proofs.Fractions.{closest-whole}
+use Rattle.finite.proofs.Rounding.{above, twice}
 use Rattle.accuracy.specs.Value.{Near}
 
 -- ---- to the nearest whole number: off by half at most

@@ -9,7 +9,6 @@ pub mod Ends
 pub mod Transforms
 pub mod Fillings
 pub mod Calls
-pub mod Fractions
 pub mod Whole
 pub mod Exact
 pub mod Accepted

@@ -1,24 +1,15 @@
 -- `round` passes no value of its format: a fraction up to q * 2 ^ j, with q of no more digits than the format keeps, stays there.
 -- Assumes nothing.
-use Rattle.sequences.proofs.Basics.{_≡_, ap, _∙_, ℕ, zero, suc, _+_, _-_, _*_, _/_, _%_, _^_, _≤_, _<_, zero-le, compare, Ordering, le-trans, le-of-eq}
-use Rattle.sequences.proofs.Basics.{not-le-of-lt, mul-comm, mul-le-mul-right, le-of-mul-le-mul-right, mul-pos, le-div-iff-mul-le, mul-div-cancel, mul-mod-left}
+use Rattle.sequences.proofs.Basics.{_≡_, ap, _∙_, ℕ, suc, _+_, _-_, _*_, _/_, _^_, _≤_, _<_, le-trans, le-of-eq}
+use Rattle.sequences.proofs.Basics.{mul-comm, mul-le-mul-right, le-of-mul-le-mul-right, mul-pos, le-div-iff-mul-le}
 use Rattle.sequences.proofs.Basics.{pow-suc, arith, decLe, dite, pow-add, pow-pos, pow-mono}
-use lib.Ieee.{Format, prec, low, nearest}
+use Rattle.fractions.proofs.Fractions.{closest-whole}
+use lib.Ieee.{Format, prec, low}
 use lib.Ieee.Digits.{size-reaches}
 use lib.Ieee.Fits.{two, two-le-pos}
-use lib.Ieee.Nearest.{closest, closest-mono}
+use lib.Ieee.Nearest.{closest-mono}
 use lib.Ieee.Order.{drop, kept}
 use lib.Ieee.Scale.{grid}
-
--- ---- to the nearest whole number
-
-pub closest-whole : (q b : ℕ) → 0 < b → closest (q * b) b ≡ q
-closest-whole q b h = ap (λ (x : ℕ). nearest x (compare (q * b % b * 2) b)) (mul-div-cancel q h)
-    ∙ ap (λ (x : ℕ). nearest q (compare (x * 2) b)) (mul-mod-left q b) ∙ go b h
-  where
-    go : (b : ℕ) → 0 < b → nearest q (compare (0 * 2) b) ≡ q
-    go zero l = absurd (not-le-of-lt l zero-le)
-    go (suc b) l = ap (λ (o : Ordering). nearest q o) (Prim.Native.Nat.compare·zero-suc b)
 
 -- ---- the digits dropped
 

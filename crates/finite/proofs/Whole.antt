@@ -8,7 +8,7 @@ use lib.Ieee.Fits.{and-l, and-r}
 use lib.Ieee.Exact.{HasValue}
 use lib.Ieee.Back.{round-whole}
 use Rattle.turn.specs.Turns.{+0}
-use Rattle.finite.proofs.Fractions.{add-at}
+use Rattle.fractions.proofs.Fractions.{add-at}
 use Rattle.finite.specs.Whole.{signed, IsWhole, Small}
 
 -- ---- signs and sizes

@@ -5,7 +5,7 @@ use mathlib.Core.Bool.{Bool, true, false}
 use mathlib.Core.List.{List, [], _∷_}
 use Rattle.refusal.specs.declared.Refusal.{Refusal}
 use Rattle.refusal.specs.declared.Refusal.the-variants.{Empty, NoRadix, TooLarge, Odd, NotPlanned, Width, NotHoused, Length, Number, Twiddle, Modulus}
-use Rattle.refusal.specs.declared.Refusal.the-variants.{Base, Remainder, Bins, Stage}
+use Rattle.refusal.specs.declared.Refusal.the-variants.{Base, Remainder, Bins, Stage, Wav}
 use Rattle.refusal.specs.declared.Verdict.{Verdict}
 use Rattle.refusal.specs.declared.Verdict.the-variants.{Accepted, Refused}
 
@@ -26,6 +26,7 @@ numberOf Base = 12
 numberOf (Remainder at) = 13
 numberOf Bins = 14
 numberOf Stage = 15
+numberOf (Wav at) = 17
 
 -- the place, 0 where the table names none; for 5, for which it names none either, every call puts in 0
 abbrev pub placeOf : Refusal → ℕ
@@ -44,6 +45,7 @@ placeOf Base = 0
 placeOf (Remainder at) = at
 placeOf Bins = 0
 placeOf Stage = 0
+placeOf (Wav at) = at
 
 -- the same of a verdict, 0 where the call is accepted
 abbrev pub numberIn : Verdict → ℕ

@@ -33,6 +33,8 @@ pub enum Refusal {
     Bins,
     // 15: the plan has no such stage.
     Stage,
+    // 17: a file is not a recording as described; the first byte of the field at fault, or the file's length.
+    Wav(usize),
 }
 
 // What a call answers of its arguments.
@@ -62,6 +64,7 @@ impl Refusal {
             Refusal::Remainder(_) => 13,
             Refusal::Bins => 14,
             Refusal::Stage => 15,
+            Refusal::Wav(_) => 17,
         }
     }
 
@@ -85,6 +88,7 @@ impl Refusal {
             Refusal::Remainder(at) => at,
             Refusal::Bins => 0,
             Refusal::Stage => 0,
+            Refusal::Wav(at) => at,
         }
     }
 }

@@ -1,0 +1,1 @@
+// What floats do by the fractions that they equal: laws, and no code.
