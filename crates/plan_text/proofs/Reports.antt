@@ -6,7 +6,8 @@ use Rattle.halving.specs.Half.{halving, halved, half}
 use Rattle.merging.specs.Merging.{tally, applies, merge, firstRule, rulesUpTo, rules, mergedBy, merged, letters, sorted, marked}
 use Rattle.plan.specs.Record.{planVerdict, factors, recordOf, refusedPlan, acceptedPlan, planned}
 use Rattle.counts.specs.Counts.{radix, twiddleCount, twiddleStart, endCount, resultIn}
-use Rattle.text.specs.Lines.{ascii, lastDigits, decimal}
+use Rattle.little.specs.Numbers.{ascii}
+use Rattle.text.specs.Lines.{lastDigits, decimal}
 use Rattle.text.specs.declared.Text.{Text}
 use Rattle.tokens.specs.Tokens.{isBlank, tokensFrom, tokens, digitValue, radixOf, radices}
 use Rattle.plan_text.specs.Report.{factorWords, planLines, refusalLine, reportOf, Reports}

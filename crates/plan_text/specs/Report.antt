@@ -14,7 +14,8 @@ use Rattle.merging.specs.declared.Merges.{Merges}
 use Rattle.plan.specs.declared.Planned.{Planned}
 use Rattle.counts.specs.declared.Buffer.{Buffer}
 use Rattle.counts.specs.declared.Buffer.the-variants.{Data, Scratchpad}
-use Rattle.text.specs.Lines.{ascii, decimal, line, textOf}
+use Rattle.little.specs.Numbers.{ascii}
+use Rattle.text.specs.Lines.{decimal, line, textOf}
 use Rattle.text.specs.declared.Text.{Text}
 use Rattle.tokens.specs.Tokens.{radices, firstRead}
 

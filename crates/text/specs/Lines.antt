@@ -1,17 +1,12 @@
 -- Lines of words and numbers, in ASCII, and their bytes as a text. Assumes nothing.
 use Prim.Native.Nat.{ℕ, zero, suc, _+_, _/_, _%_, _-_}
-use Prim.Native.Char.{code}
-use Prim.Native.String.{String, [] as []ˢ, _∷_ as _∷ˢ_}
+use Prim.Native.String.{String}
 use mathlib.Core.Bool.{cond}
 use mathlib.Core.List.{List, [], _∷_, _++_}
 use lib.Dec.{ltb}
 use lib.ListN.{length, replicate}
+use Rattle.little.specs.Numbers.{ascii}
 use Rattle.text.specs.declared.Text.{Text}
-
--- the codes of a text
-abbrev pub ascii : String → List ℕ
-ascii []ˢ = []
-ascii (c ∷ˢ s) = code c ∷ ascii s
 
 -- the last k decimal digits of a number, or all that it has
 unfoldable pub lastDigits : ℕ → ℕ → List ℕ

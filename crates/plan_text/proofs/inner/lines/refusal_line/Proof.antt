@@ -1,7 +1,8 @@
 -- `refusal_line` adds the name, the number, the place and the line end; they fit. Assumes nothing.
 use Rattle.sequences.proofs.Basics.{ap, _∙_, ℕ, arith, List, [], _∷_, _++_, lit≤, needs}
 use Rattle.refusal.specs.Refusal.{numberOf}
-use Rattle.text.specs.Lines.{ascii, decimal, line}
+use Rattle.little.specs.Numbers.{ascii}
+use Rattle.text.specs.Lines.{decimal, line}
 use Rattle.text.proofs.Growing.{then, said, holds, two-words}
 use Rattle.plan_text.specs.Report.{refusalLine}
 use Rattle.plan_text.proofs.inner.lines.refusal_line as fn

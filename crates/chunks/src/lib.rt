@@ -1,0 +1,2 @@
+// The walk over the chunks of a recording.
+pub mod inner;

@@ -1,0 +1,3 @@
+-- The laws that the proofs share and callers cite.
+pub mod Judging
+pub mod Told

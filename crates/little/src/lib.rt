@@ -1,0 +1,2 @@
+// Numbers of two and of four bytes, the lowest first.
+pub mod inner;

@@ -1,0 +1,2 @@
+// What the calls over files are made of.
+pub mod samples;

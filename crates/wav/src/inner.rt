@@ -1,0 +1,2 @@
+// What the calls are made of.
+pub mod header;
