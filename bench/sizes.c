@@ -14,6 +14,7 @@ static ladlespindle_record plan;
 static size_t length, width, stages, ends;
 static float input[8194], output[8194], scratch[6 * 8192], stage[40000], end[4096];
 static uint32_t cells[4096], others[4096];
+static uint8_t file[44 + 2 * 8192];
 static volatile size_t kept;
 
 static void on_it(void) { call(); }
@@ -50,6 +51,9 @@ static void heard(void) { kept = ladlespindle_hear(plan, width, input, plan.n, o
 static void inverse(void) { kept = ladlespindle_inverse(plan, width, input, plan.n + 2, output, plan.n, scratch, 6 * plan.n, stage, stages, end, ends).number; }
 static void powered(void) { kept = ladlespindle_power(input, plan.n + 2, 0, plan.half).number; }
 static void remained(void) { kept = ladlespindle_remainder_run(plan, 65537, 1, cells, plan.half, others, plan.half).number; }
+static void written(void) { kept = ladlespindle_wav_write(16000, input, plan.n, file, 44 + 2 * plan.n).number; }
+static void measured(void) { kept = ladlespindle_wav_measure(file, 44 + 2 * plan.n).samples; }
+static void read_back(void) { kept = ladlespindle_wav_read(file, 44 + 2 * plan.n, output, plan.n).samples; }
 
 int main(void)
 {
@@ -60,7 +64,8 @@ int main(void)
         size_t most;
     } calls[] = {{"plan", planned, 0},          {"scale", scaled, 0},    {"accepts", accepted, 0}, {"turn", turned, 0},
                  {"fill_forward", filled, 0},   {"stage", staged, 0},    {"forward", forward, 0},  {"inverse", inverse, 0}, {"hear", heard, 0},
-                 {"power", powered, 0},         {"remainder_run", remained, 0}};
+                 {"power", powered, 0},         {"remainder_run", remained, 0},
+                 {"wav_write", written, 0},     {"wav_measure", measured, 0}, {"wav_read", read_back, 0}};
     size_t number = sizeof calls / sizeof *calls;
     touched(nothing);
     size_t least = touched(nothing);

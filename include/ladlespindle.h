@@ -1,5 +1,5 @@
-/* ladlespindle.h: planning of spectra, their twiddles, both transforms, the power of bins and whether bees fan, and stages in remainders, for
- * a C host. One that only asks whether bees fan takes ladlespindle_hive.h, which tests its twiddles before it hears.
+/* ladlespindle.h: planning of spectra, their twiddles, both transforms, the power of bins and whether bees fan, recordings as WAV files, and
+ * stages in remainders, for a C host. One that only asks whether bees fan takes ladlespindle_hive.h, which tests its twiddles before it hears.
  *
  * Every function takes whatever it is lent, ends, and allocates nothing. A list is bytes, one radix each: 2, 3, 4, 5,
  * 7 or 8. Its product is the length n, even and at most 8,192.
@@ -41,7 +41,7 @@ extern "C" {
 
 /* The version, 10000 * major + 100 * minor + patch, and the number of the interface, which goes up whenever a struct, a signature or the
  * meaning of an answer changes. A host that was compiled with this header links a library whose ladlespindle_interface() is the same. */
-#define LADLESPINDLE_VERSION 1000
+#define LADLESPINDLE_VERSION 1100
 #define LADLESPINDLE_INTERFACE 1
 uint32_t ladlespindle_version(void);
 uint32_t ladlespindle_interface(void);
@@ -57,13 +57,14 @@ enum ladlespindle_refusal {
     LADLESPINDLE_WIDTH = 6,       /* the width is not 1, 2 or 4 */
     LADLESPINDLE_NOT_HOUSED = 7,  /* the house table does not serve the length, or the parts of a circle */
     LADLESPINDLE_LENGTH = 8,      /* a lent length is wrong; place: 0 input, 1 output, 2 scratch, 3 stage twiddles, 4 end twiddles */
-    LADLESPINDLE_NUMBER = 9,      /* a number is not finite or too large; place: its index */
+    LADLESPINDLE_NUMBER = 9,      /* a number is not finite, too large, or no sample of 16 bits; place: its index */
     LADLESPINDLE_TWIDDLE = 10,    /* a twiddle's number is not finite or above 1; place: its index, stage then end */
     LADLESPINDLE_MODULUS = 11,    /* the modulus is below 2 */
     LADLESPINDLE_BASE = 12,       /* the base is not below the modulus, or its power is not 1 */
     LADLESPINDLE_REMAINDER = 13,  /* a remainder is not below the modulus; place: its index */
     LADLESPINDLE_BINS = 14,       /* the bins asked for are no range of bins */
-    LADLESPINDLE_STAGE = 15       /* the plan has no such stage */
+    LADLESPINDLE_STAGE = 15,      /* the plan has no such stage */
+    LADLESPINDLE_WAV = 17         /* a file is no WAV as read here; place: the first byte of the field at fault, or the file's length */
 };
 
 /* A plan: the length, its half, and the radices of the stages in ascending order, unused entries 0. */
@@ -139,6 +140,14 @@ typedef struct {
     float power;
     uint32_t decision;
 } ladlespindle_heard;
+
+/* The same of a WAV file, with its samples a second and how many samples it has, both 0 on a refusal. */
+typedef struct {
+    uint32_t number;
+    size_t place;
+    uint32_t rate;
+    size_t samples;
+} ladlespindle_wav;
 
 /* The plan of a list, with the number and place of its refusal (1, 2, 3 or 4, in this order of tests). */
 ladlespindle_planned ladlespindle_plan_list(const uint8_t *list, size_t length);
@@ -270,6 +279,34 @@ ladlespindle_heard ladlespindle_hear(ladlespindle_record plan, size_t width, con
                                      size_t output_length, float *scratch, size_t scratch_length, const float *stage_twiddles,
                                      size_t stage_twiddles_length, const float *end_twiddles, size_t end_twiddles_length, size_t lo, size_t hi,
                                      float threshold);
+
+/* Recordings as WAV files: RIFF WAVE with PCM of 16 bits, one channel, 1 to 192,000 samples a second. Lend the whole file, as bytes. Measure
+ * first: the answer has the rate and how many samples there are, which is the length of the output to read them into. A sample is its whole
+ * number, from -32,768 to 32,767, divided by 32,768, which is exact: n of them are lent to ladlespindle_forward or ladlespindle_hear as they are.
+ *
+ * A file is judged field by field, in the order of its bytes; numbers stand lowest byte first:
+ *
+ * - 'RIFF'; a size, four bytes, which is the file's length less 8; 'WAVE'. Then chunks, each an id of four bytes, a size of four and so many bytes.
+ * - The first chunk 'fmt ' has the size 16, the tag 1, 1 channel, the rate, twice the rate as the bytes a second, and 2 and 16 as the bytes and
+ *   the bits of a sample, in fields of 4, 2, 2, 4, 4, 2 and 2 bytes.
+ * - The first chunk 'data' stands behind it and has an even size: two bytes for each sample. What follows it is not read.
+ * - Any other chunk before it is passed over, with one byte more where its size is odd.
+ *
+ * A file that is not so is refused with 17: at the first byte of the first field at fault (at its id a 'data' with no 'fmt ' before it), or, where
+ * the file ends before a field is whole or before the bytes of a chunk do, at the file's length. One that was cut short has the wrong size
+ * behind 'RIFF', so it is refused at 4.
+ *
+ * What a file holds. Refused with 17. */
+ladlespindle_wav ladlespindle_wav_measure(const uint8_t *file, size_t file_length);
+
+/* Its samples, written to the output. Refused, in this order, with 17 and with 8 (place 1: the output has not exactly the file's samples). */
+ladlespindle_wav ladlespindle_wav_read(const uint8_t *file, size_t file_length, float *output, size_t output_length);
+
+/* Writes such a file, of 44 + 2 * samples_length bytes: 'fmt ' and 'data' alone. Reading it gives the rate and the samples again, -0 as +0; a file
+ * of so many bytes that was read is written again byte for byte. Refused, in this order, with 17 (place 24, where the rate stands: it is not from 1
+ * to 192,000), 8 (place 0: more than 2,147,483,629 samples; 1: the file has not exactly so many bytes) and 9 (32,768 times a sample is no whole
+ * number from -32,768 to 32,767; place: the index of the first such sample). */
+ladlespindle_answer ladlespindle_wav_write(uint32_t rate, const float *samples, size_t samples_length, uint8_t *file, size_t file_length);
 
 /* In remainders modulo m, from 2 to 4,294,967,295, a base w below m whose power `half` leaves 1 stands for one part of a
  * circle of `half` parts. Both functions lend two buffers of `half` numbers, below m where they are read. They refuse, in

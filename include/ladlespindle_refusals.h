@@ -27,14 +27,19 @@ LADLESPINDLE_HERE_ const char *ladlespindle_sentence(uint32_t number)
     case LADLESPINDLE_NOT_PLANNED: return "the plan is none that planning gives: plan, or open the hive, first, and go on only if that is accepted";
     case LADLESPINDLE_WIDTH: return "the width is not 1, 2 or 4: lend 1, and words that are packed for 1";
     case LADLESPINDLE_NOT_HOUSED: return "the house table does not serve this length: lend words that tools/words makes, or plan a divisor of 6,720";
-    case LADLESPINDLE_LENGTH: return "a buffer has too few or too many numbers: lend exactly n samples, and buffers as ladlespindle_sizes.h says";
-    case LADLESPINDLE_NUMBER: return "a number is not finite or too large: lend samples of at most 2^32 and bins of at most 2^48 in magnitude";
+    case LADLESPINDLE_LENGTH:
+        return "a buffer is too short or too long: lend exactly n samples, and buffers as ladlespindle_sizes.h says; "
+               "for WAV all samples, or 44 bytes and 2 a sample";
+    case LADLESPINDLE_NUMBER:
+        return "a number is not finite or does not fit: lend samples of at most 2^32 and bins of at most 2^48 in magnitude; "
+               "to write WAV whole 32,768ths from -1 to below 1";
     case LADLESPINDLE_TWIDDLE: return "a twiddle word is not finite or above 1: fill the twiddles again, and lend them unchanged";
     case LADLESPINDLE_MODULUS: return "the modulus is below 2: lend one from 2 to 4,294,967,295";
     case LADLESPINDLE_BASE: return "the base does not fit the modulus: lend one below it whose power `half` leaves 1";
     case LADLESPINDLE_REMAINDER: return "a remainder is not below the modulus: lend numbers that are reduced by it";
     case LADLESPINDLE_BINS: return "the bins are no range: ask for lo to hi with lo not above hi, and hi not above half the length";
     case LADLESPINDLE_STAGE: return "the plan has no such stage: count from 0, and ask for one below the plan's count";
+    case LADLESPINDLE_WAV: return "this is no whole WAV file of 16-bit PCM in one channel: save it as that, plain, at 1 to 192,000 samples a second";
     }
     return "no refusal has this number: the header and the library are of different versions, so install both from one";
 }

@@ -11,9 +11,10 @@ static int tells(const char *sentence)
 
 int main(void)
 {
-    static const uint32_t strange[] = {LADLESPINDLE_STAGE + 1, 17, 255, 256, 65536, 2147483648u, 4294967295u};
+    static const uint32_t strange[] = {LADLESPINDLE_STAGE + 1, LADLESPINDLE_WAV + 1, 255, 256, 65536, 2147483648u, 4294967295u};
     const char *unknown = ladlespindle_sentence(strange[0]);
-    for (uint32_t number = 0; number <= LADLESPINDLE_STAGE; number++) {
+    for (uint32_t number = 0; number <= LADLESPINDLE_WAV; number++) {
+        if (number == strange[0]) continue;
         const char *sentence = ladlespindle_sentence(number);
         check_at(tells(sentence), "a sentence", number, "what is wrong, and what to do");
         check_at(strcmp(sentence, unknown) != 0, "a sentence", number, "not that of an unknown number");

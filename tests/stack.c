@@ -14,6 +14,7 @@ static size_t length, width, stage_words, end_words;
 static ladlespindle_record plan;
 static float input[N + 2], output[N + 2], scratch[6 * N], stage_twiddles[TWIDDLES], end_twiddles[N];
 static uint32_t data[N / 2], other[N / 2];
+static uint8_t file[44 + 2 * N];
 static volatile size_t answered;
 
 static void nothing(void) { answered = 0; }
@@ -84,6 +85,11 @@ static void remainder_run(void)
     answered = ladlespindle_remainder_run(plan, 65537, 1, data, plan.half, other, plan.half).number;
 }
 
+/* A file of n samples, which are 0, is written before it is measured and read. */
+static void wav_write(void) { answered = ladlespindle_wav_write(16000, input, plan.n, file, 44 + 2 * plan.n).number; }
+static void wav_measure(void) { answered = ladlespindle_wav_measure(file, 44 + 2 * plan.n).samples; }
+static void wav_read(void) { answered = ladlespindle_wav_read(file, 44 + 2 * plan.n, output, plan.n).samples; }
+
 /* Every call, and how many bytes of stack the header gives it. */
 static const struct {
     const char *name;
@@ -117,6 +123,9 @@ static const struct {
     {"power", power, 2048},
     {"remainder_stage", remainder_stage, 2048},
     {"remainder_run", remainder_run, 2048},
+    {"wav_write", wav_write, 2048},
+    {"wav_measure", wav_measure, 2048},
+    {"wav_read", wav_read, 2048},
 };
 
 enum { CALLS = sizeof calls / sizeof *calls };

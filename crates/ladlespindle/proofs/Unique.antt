@@ -8,13 +8,14 @@ use Rattle.schedule.specs.Buffers.{Two}
 use Rattle.twiddle.specs.Calls.{Slices}
 use Rattle.ladlespindle.specs.declared.Answer.{Answer}
 use Rattle.ladlespindle.specs.declared.Heard.{Heard}
+use Rattle.ladlespindle.specs.declared.Wav.{Wav}
 use Rattle.ladlespindle.specs.declared.Planned.{Planned}
 use Rattle.ladlespindle.specs.declared.Summed.{Summed}
 use Rattle.ladlespindle.specs.declared.Ran.{Ran}
 use Rattle.ladlespindle.specs.declared.Scaling.{Scaling}
 use Rattle.ladlespindle.specs.declared.TurnWords.{TurnWords}
 use Rattle.ladlespindle.specs.Calls.{Gives, GivesTurn, GivesForward, GivesInverse, GivesStage, GivesSpectrum, GivesSamples, GivesPower}
-use Rattle.ladlespindle.specs.Calls.{GivesHeard, GivesRemainderStage, GivesRemainderRun}
+use Rattle.ladlespindle.specs.Calls.{GivesHeard, GivesMeasured, GivesRead, GivesWritten, GivesRemainderStage, GivesRemainderRun}
 use Rattle.ladlespindle.specs.Exports.{GivesVersion, GivesInterface, GivesPlanned}
 use Rattle.ladlespindle.specs.Exports.{GivesPlan, GivesNumber, GivesPlace, GivesLength, GivesHalf, GivesStages, GivesMerges, GivesRadix, GivesLetter}
 use Rattle.ladlespindle.specs.Exports.{GivesStageTwiddles, GivesEndTwiddles, GivesResult, GivesAcceptance, GivesScaling}
@@ -126,3 +127,14 @@ GivesRemainderRun-one p m w before a b = (agree (a .answer) (b .answer), agree (
 pub GivesHeard-one : (p : Record) (W : ℕ) (stage end input : List Float) (lo hi : ℕ) (threshold : Float) (before : Slices) {r s : Heard} {x y : Slices}
     → GivesHeard p W stage end input lo hi threshold before r x → GivesHeard p W stage end input lo hi threshold before s y → (r ≡ s) × (x ≡ y)
 GivesHeard-one p W stage end input lo hi threshold before a b = (agree (a .answer) (b .answer), agree (a .cells) (b .cells))
+
+pub GivesMeasured-one : {file : List ℕ} {r s : Wav} → GivesMeasured file r → GivesMeasured file s → r ≡ s
+GivesMeasured-one a b = agree (a .answer) (b .answer)
+
+pub GivesRead-one : {file : List ℕ} {before : List Float} {r s : Wav} {x y : List Float} → GivesRead file before r x → GivesRead file before s y
+    → (r ≡ s) × (x ≡ y)
+GivesRead-one a b = (agree (a .answer) (b .answer), agree (a .cells) (b .cells))
+
+pub GivesWritten-one : (rate : ℕ) (xs : List Float) (before : List ℕ) {r s : Answer} {x y : List ℕ} → GivesWritten rate xs before r x
+    → GivesWritten rate xs before s y → (r ≡ s) × (x ≡ y)
+GivesWritten-one rate xs before a b = given-one a b

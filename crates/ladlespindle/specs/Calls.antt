@@ -21,6 +21,10 @@ use Rattle.transform.specs.Transforms.{forwardOf, inverseOf, Slices as Buffers}
 use Rattle.power.specs.declared.Summed.{Summed as Sum}
 use Rattle.hear.specs.Hear.{decisionNumber, hearVerdict, heard}
 use Rattle.hear.specs.declared.Heard.{Heard as Hearing}
+use Rattle.pcm.specs.Samples.{samplesAt}
+use Rattle.chunks.specs.Chunks.{walkOf}
+use Rattle.wav.specs.Wav.{told, readVerdict, writeVerdict, fileOf}
+use Rattle.wav.specs.declared.Wav.{Wav as Found}
 use Rattle.residues.specs.Residues.{stageOf, runOf}
 use Rattle.remainder.specs.Calls.{stageVerdict, runVerdict}
 use Rattle.ladlespindle.specs.declared.Answer.{Answer}
@@ -28,6 +32,7 @@ use Rattle.ladlespindle.specs.declared.Heard.{Heard}
 use Rattle.ladlespindle.specs.declared.Summed.{Summed}
 use Rattle.ladlespindle.specs.declared.Ran.{Ran}
 use Rattle.ladlespindle.specs.declared.TurnWords.{TurnWords}
+use Rattle.ladlespindle.specs.declared.Wav.{Wav}
 
 -- a verdict as two numbers
 abbrev pub answered : Verdict → Answer
@@ -100,6 +105,28 @@ pub record GivesHeard (p : Record) (W : ℕ) (stage end input : List Float) (lo 
   pub answer : r ≡ crossedHeard (heard (hearVerdict p W input (length (before .0)) (length (before .1)) stage end lo hi)
       (powerFrom (forwardOf p W stage end input (before .1) .0) lo (hi + 1 - lo)) threshold)
   pub cells : after ≡ left (hearVerdict p W input (length (before .0)) (length (before .1)) stage end lo hi) (forwardOf p W stage end input (before .1)) before
+
+-- ---- recordings
+
+-- what a recording answers, with its verdict as two numbers
+abbrev pub wavAs : (number place rate samples : ℕ) → Wav
+wavAs n k rate samples = record { number = n; place = k; rate = rate; samples = samples }
+
+abbrev pub crossedWav : Found → Wav
+crossedWav w = wavAs (numberIn (w .verdict)) (placeIn (w .verdict)) (w .rate) (w .samples)
+
+-- what `ladlespindle_wav_measure` promises of its answer r
+pub record GivesMeasured (file : List ℕ) (r : Wav) : Type 0 where
+  pub answer : r ≡ crossedWav (told (walkOf file .verdict) (walkOf file))
+
+-- what `ladlespindle_wav_read` promises of its answer r and of what is left in the output
+pub record GivesRead (file : List ℕ) (before : List Float) (r : Wav) (after : List Float) : Type 0 where
+  pub answer : r ≡ crossedWav (told (readVerdict file (length before)) (walkOf file))
+  pub cells : after ≡ left (readVerdict file (length before)) (samplesAt file (walkOf file .at) (walkOf file .samples)) before
+
+-- what `ladlespindle_wav_write` promises of its answer r and of what is left in the file
+abbrev pub GivesWritten : (rate : ℕ) (xs : List Float) (before : List ℕ) → Answer → (after : List ℕ) → Type 0
+GivesWritten rate xs before r after = Gives (writeVerdict rate xs (length before)) (fileOf rate xs) before r after
 
 -- ---- remainders
 

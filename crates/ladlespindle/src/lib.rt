@@ -1,6 +1,6 @@
 // The functions that a host written in C links: the version; planning, its refusals, counts and scaling, on lists of radices; a single turn; the
-// filling of twiddles; a stage in floats; both transforms, the power of bins and whether the bees fan; and the stages in remainders, on a plan and
-// buffers of whole numbers.
+// filling of twiddles; a stage in floats; both transforms, the power of bins and whether the bees fan; recordings as WAV files; and the stages in
+// remainders, on a plan and buffers of whole numbers.
 use counts::inner::stages::result_in;
 use plan::Record;
 use radices::Radices;
@@ -11,7 +11,7 @@ ghost use lib.ListN.{getD};
 ghost use Rattle.ladlespindle.specs.Exports.{GivesVersion, GivesInterface, GivesPlanned, GivesPlan, GivesNumber, GivesPlace, GivesLength, GivesHalf, GivesStages, GivesMerges, GivesRadix, GivesLetter, GivesStageTwiddles, GivesEndTwiddles, GivesResult, GivesAcceptance, GivesScaling};
 ghost use Rattle.refusal.specs.Refusal.{left};
 ghost use Rattle.counts.specs.Counts.{resultIn, bufferNumber};
-ghost use Rattle.ladlespindle.specs.Calls.{GivesTurn, GivesForward, GivesInverse, GivesStage, GivesSpectrum, GivesSamples, GivesPower, GivesHeard, GivesRemainderStage, GivesRemainderRun};
+ghost use Rattle.ladlespindle.specs.Calls.{GivesTurn, GivesForward, GivesInverse, GivesStage, GivesSpectrum, GivesSamples, GivesPower, GivesHeard, crossedWav, GivesMeasured, GivesRead, GivesWritten, GivesRemainderStage, GivesRemainderRun};
 
 // What planning answers, with the refusal as two numbers.
 #[repr(C)]
@@ -66,6 +66,15 @@ pub struct Heard {
     pub decision: u32,
 }
 
+// The same of a recording, with its rate and how many samples it holds, 0 on a refusal.
+#[repr(C)]
+pub struct Wav {
+    pub number: u32,
+    pub place: usize,
+    pub rate: u32,
+    pub samples: usize,
+}
+
 // The same of a run, with the buffer that holds the result: 0 for Data and on a refusal, 1 for Scratchpad.
 #[repr(C)]
 pub struct Ran {
@@ -79,7 +88,7 @@ pub struct Ran {
 pub extern "C" fn ladlespindle_version() -> u32
     ensures { λ r. ⌜ GivesVersion r ⌝ }
 {
-    1000
+    1100
 }
 
 // The number of the interface, raised whenever a struct, a signature or the meaning of an answer changes.
@@ -424,6 +433,34 @@ pub extern "C" fn ladlespindle_hear(
     }
 }
 
+// The rate of a recording, and how many samples it holds.
+#[no_mangle]
+pub extern "C" fn ladlespindle_wav_measure(file: &[u8]) -> Wav
+    ensures { λ r. ⌜ GivesMeasured (now (file .entry)) r ⌝ }
+{
+    as_numbers(wav::measure(file))
+}
+
+// The samples of a recording.
+#[no_mangle]
+pub extern "C" fn ladlespindle_wav_read(file: &[u8], output: &mut [f32]) -> Wav
+    ensures { λ r. ⌜ GivesRead (now (file .entry)) (now (output .entry)) r (now (output .exit)) ⌝ }
+{
+    as_numbers(wav::read(file, output))
+}
+
+// A recording of samples.
+#[no_mangle]
+pub extern "C" fn ladlespindle_wav_write(rate: u32, samples: &[f32], file: &mut [u8]) -> Answer
+    ensures { λ r. ⌜ GivesWritten rate (now (samples .entry)) (now (file .entry)) r (now (file .exit)) ⌝ }
+{
+    let verdict = wav::write(rate, samples, file);
+    Answer {
+        number: verdict.number(),
+        place: verdict.place(),
+    }
+}
+
 // Stage `number` of a plan in remainders modulo m, written to the other buffer.
 #[no_mangle]
 pub extern "C" fn ladlespindle_remainder_stage(
@@ -469,6 +506,19 @@ fn holder(verdict: Verdict, count: usize) -> u32
     match verdict {
         Verdict::Accepted => result_in(count).number(),
         Verdict::Refused(_) => 0,
+    }
+}
+
+// What a recording answers, with the refusal as two numbers.
+fn as_numbers(found: wav::Wav) -> Wav
+    ensures { λ r. ⌜ r ≡ crossedWav found ⌝ }
+{
+    let verdict = found.verdict;
+    Wav {
+        number: verdict.number(),
+        place: verdict.place(),
+        rate: found.rate,
+        samples: found.samples,
     }
 }
 
