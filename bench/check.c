@@ -1,6 +1,6 @@
-/* check.c: CALLS LIST WIDTH DIRECTION (0 forward, 1 inverse, 2 heard from 200 to 300 Hz at 16,000): makes everything ready for a call and does
- * it so often, so that its instructions are the difference of two runs. It brings the memcpy and memset that the library calls, since a C
- * library picks its own by the processor. */
+/* check.c: CALLS LIST WIDTH DIRECTION (0 forward, 1 inverse, 2 heard from 200 to 300 Hz at 16,000; 3 a WAV file of n samples read, 4 written): makes
+ * everything ready for a call and does it so often, so that its instructions are the difference of two runs. It brings the memcpy and memset
+ * that the library calls, since a C library picks its own by the processor. */
 #include "ladlespindle.h"
 #include <stdlib.h>
 #include <string.h>
@@ -43,12 +43,14 @@ typedef struct {
 } ready;
 
 /* The number of a call's refusal. */
-static uint32_t called(ready r, const float *input, float *output, float *scratch, const float *stage, const float *end)
+static uint32_t called(ready r, const float *input, float *output, float *scratch, const float *stage, const float *end, uint8_t *file)
 {
     size_t n = r.plan.n;
     switch (r.direction) {
     case '0': return ladlespindle_forward(r.plan, r.width, input, n, output, n + 2, scratch, 6 * n, stage, r.stages, end, r.ends).number;
     case '1': return ladlespindle_inverse(r.plan, r.width, input, n + 2, output, n, scratch, 6 * n, stage, r.stages, end, r.ends).number;
+    case '3': return ladlespindle_wav_read(file, 44 + 2 * n, output, n).number;
+    case '4': return ladlespindle_wav_write(16000, input, n, file, 44 + 2 * n).number;
     default:
         return ladlespindle_hear(r.plan, r.width, input, n, output, n + 2, scratch, 6 * n, stage, r.stages, end, r.ends, (n + 79) / 80, 3 * n / 160, 225)
             .number;
@@ -58,6 +60,7 @@ static uint32_t called(ready r, const float *input, float *output, float *scratc
 int main(int count, char **words)
 {
     static float input[8194], output[8194], scratch[6 * 8192], stage[40000], end[4096];
+    static uint8_t file[44 + 2 * 8192];
     uint8_t list[16];
     ready r;
     if (count != 5 || strlen(words[2]) > sizeof list) return 2;
@@ -71,7 +74,11 @@ int main(int count, char **words)
     for (size_t i = 0; i < r.plan.n + 2; i++) input[i] = (float)(i * 77 % 101) - 50;
     for (size_t i = 0; i < r.stages; i++) stage[i] = (float)(i * 31 % 97) / 97 - 0.5f;
     for (size_t i = 0; i < r.ends; i++) end[i] = (float)(i * 29 % 89) / 89 - 0.5f;
+    if (r.direction > '2') {
+        for (size_t i = 0; i < r.plan.n; i++) input[i] = (float)((int)(i * 2477 % 65536) - 32768) / 32768;
+        if (ladlespindle_wav_write(16000, input, r.plan.n, file, 44 + 2 * r.plan.n).number != 0) return 1;
+    }
     for (; calls > 0; calls--)
-        if (called(r, input, output, scratch, stage, end) != 0) return 1;
+        if (called(r, input, output, scratch, stage, end, file) != 0) return 1;
     return 0;
 }

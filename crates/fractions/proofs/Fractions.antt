@@ -1,7 +1,8 @@
 -- Floats by any fractions that they equal: their sum and product, how they compare, and that the fraction and the sign decide a float. Assumes nothing.
 use Rattle.sequences.proofs.Basics.{_≡_, refl, sym, ap, ap₂, _∙_, subst, ℕ, _+_, _-_, _*_, _/_, _^_, _<_, _≤_, mul-pos, mul-comm, mul-right-comm, mul-assoc}
 use Rattle.sequences.proofs.Basics.{eq-of-mul-eq-mul-right, lt-of-not-le, mul-le-mul-right, mul-lt-mul-of-pos-right, mul-sub, arith, decLe, ℕ-discrete, dite}
-use Rattle.sequences.proofs.Basics.{mul-left-comm, mul-one, div-one, mod-one, zero-lt-suc, Bool, true, false, cond, _&&_, T, ltb, eqb, lt-ltb, le-ltb, eq-eqb, ne-eqb}
+use Rattle.sequences.proofs.Basics.{mul-left-comm, mul-one, div-one, mod-one, zero-lt-suc}
+use Rattle.sequences.proofs.Basics.{Bool, true, false, cond, _&&_, T, ltb, eqb, lt-ltb, le-ltb, eq-eqb, ne-eqb}
 use lib.IntN.{ℤ}
 use lib.Ieee.{Float, nan, inf, fin, Format, prec, low, hid, top, up, down, size, round, sum, add, lt, eq, below, level, fits, toBits, ofBits, mul, unlike}
 use lib.Ieee.Fits.{down-pos}

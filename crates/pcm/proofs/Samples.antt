@@ -5,12 +5,11 @@ use Rattle.sequences.proofs.Basics.{div-add-mod', zero-lt-suc, arith, decLe, di
 use Rattle.sequences.proofs.Basics.{leb-true, eqb-true, lit<, lit≤}
 use lib.IntN.{pos}
 use lib.Count.{trailingZeros}
-use lib.Ieee.{Float, nan, inf, fin, binary32, up, down, minus, odd, unlike, round, div, ofInt}
+use lib.Ieee.{Float, nan, inf, fin, binary32, up, down, minus, odd, unlike, round, div}
 use lib.Ieee.{fits as Ieee·fits}
 use lib.Ieee.Fits.{down-pos, odd-fits, round-fits}
 use lib.Ieee.Exact.{HasValue, odd-sign, round-exact}
 use lib.Ieee.Scale.{round-same}
-use lib.Ieee.Back.{round-whole}
 use Rattle.pcm.specs.Samples.{over, fits, wordOf}
 use Rattle.fractions.proofs.Fractions.{of-value, one-float}
 
@@ -49,16 +48,15 @@ over-round s q l =
     one-float binary32 (round binary32 s q 32768) (over s q) s q 32768 (zero-lt-suc 32767) (round-fits binary32 s q 32768) (over-fits s q l)
     (round-exact binary32 s q 32768 q 134 (zero-lt-suc 32767) (omega arith) (under q l) (sym (mul-assoc q (2 ^ 134) 32768))) (over-value s q)
 
--- and so is the code's quotient
-pub quotient : (s : Bool) (q : ℕ) → q < 65536 → div binary32 (ofInt binary32 (pos q)) (fin s 1 (pos 15)) ≡ over s q
-unfolding ofInt div
-quotient s q l = of-value (λ (x : Float). div binary32 x (fin s 1 (pos 15)) ≡ over s q) (round binary32 false q 1) false q 1
-    (round-whole binary32 false q (omega arith))
+-- and so is a whole number divided by it
+pub quotient : (x : Float) (s : Bool) (q : ℕ) → q < 65536 → HasValue x s q 1 → div binary32 x (fin false 1 (pos 15)) ≡ over s q
+unfolding div
+quotient x s q l v = of-value (λ (y : Float). div binary32 y (fin false 1 (pos 15)) ≡ over s q) x s q 1 v
     (λ m e p. ap (λ (t : Bool). round binary32 t (m * up e * 1) (32768 * down e)) (like s)
     ∙ round-same binary32 s (m * up e * 1) (32768 * down e) q 32768 (mul-pos (zero-lt-suc 32767) (down-pos e)) (zero-lt-suc 32767) (omega (arith, p))
     ∙ over-round s q l)
   where
-    like : (s : Bool) → unlike false s ≡ s
+    like : (s : Bool) → unlike s false ≡ s
     like true = refl
     like false = refl
 

@@ -3,9 +3,9 @@ use Rattle.sequences.proofs.Basics.{_≡_, refl, sym, ap, _∙_, subst, ℕ, ze
 use Rattle.sequences.proofs.Basics.{mul-assoc, mul-right-comm, mul-comm, one-mul, eq-of-mul-eq-mul-right, mul-lt-mul-of-pos-right, mul-le-mul-right}
 use Rattle.sequences.proofs.Basics.{lt-of-le-of-lt, lt-of-lt-of-le, le-trans, le-of-eq, le-of-lt, lt-of-not-le, not-le-of-lt, le-div-iff-mul-le}
 use Rattle.sequences.proofs.Basics.{div-lt-iff-lt-mul, zero-mul, add-comm, zero-lt-suc, arith, decLe, dite, Bool, true, false, cond, _&&_}
-use Rattle.sequences.proofs.Basics.{T, ltb, leb, eqb, ltb→lt, leb→le, lt-ltb, lit<, pow-add, pow-pos, pow-mono, pow-lt}
+use Rattle.sequences.proofs.Basics.{T, ltb, leb, eqb, ltb→lt, leb→le, lt-ltb, le-ltb, lit<, pow-add, pow-pos, pow-mono, pow-lt}
 use lib.IntN.{ℤ, pos, negsuc}
-use lib.Ieee.{Float, nan, inf, fin, binary32, up, down, size, odd, units, round, sum, add, sub, mul, neg, le, fits}
+use lib.Ieee.{Float, nan, inf, fin, binary32, up, down, size, odd, units, round, sum, add, sub, mul, div, neg, le, fits, ofInt}
 use lib.Ieee.Digits.{size-lt, size-le}
 use lib.Ieee.Fits.{down-pos, and-l, and-r, core, round-is, nearest-le}
 use lib.Ieee.Exact.{HasValue, units-val, round-exact}
@@ -13,7 +13,9 @@ use lib.Ieee.Nearest.{closest, closest-same}
 use lib.Ieee.Order.{round-mono}
 use lib.Ieee.Scale.{round-same}
 use lib.Ieee.Back.{round-whole}
+use Rattle.pcm.specs.Samples.{over, sampleOf}
 use Rattle.pcm.proofs.Constants.{scale, shift}
+use Rattle.pcm.proofs.Samples.{quotient}
 use Rattle.fractions.proofs.Fractions.{of-value, add-at}
 
 -- ---- the product
@@ -153,21 +155,50 @@ nearest-whole a b B lo hi = (
 
 -- ---- the difference
 
--- of n and 3 * 2 ^ 22, with the sign b
-abbrev apart : (b : Bool) (n : ℕ) → ℕ
-apart b n = cond b (12582912 - n) (n - 12582912)
+-- of n and k, with the sign b
+abbrev apart : (k : ℕ) (b : Bool) (n : ℕ) → ℕ
+apart k b n = cond b (k - n) (n - k)
 
 -- its size
-abbrev pub rest : ℕ → ℕ
-rest n = apart (ltb n 12582912) n
+abbrev pub rest : (k n : ℕ) → ℕ
+rest k n = apart k (ltb n k) n
 
--- of a whole number it is exact
-pub rest-value : (x : Float) (n : ℕ) → n ≤ 16777216 → HasValue x false n 1 → HasValue (sub binary32 x shift) (ltb n 12582912) (rest n) 1
-unfolding sub neg sum
-rest-value x n l v =
-    subst (λ (y : Float). HasValue y (ltb n 12582912) (rest n) 1)
-    (sym (add-at binary32 x (neg shift) false true n 12582912 1 (zero-lt-suc 0) v (refl, refl))) (go (ltb n 12582912))
+-- the negative of a number
+neg-value : (y : Float) (k : ℕ) → HasValue y false k 1 → HasValue (neg y) true k 1
+unfolding neg
+neg-value y k w = of-value (λ (z : Float). HasValue (neg z) true k 1) y false k 1 w (λ m e p. (refl, p))
+
+-- of whole numbers it is exact
+pub rest-value : (x y : Float) (n k : ℕ) → n ≤ 16777216 → k ≤ 16777216 → HasValue x false n 1 → HasValue y false k 1
+    → HasValue (sub binary32 x y) (ltb n k) (rest k n) 1
+unfolding sub sum
+rest-value x y n k l m v w =
+    subst (λ (z : Float). HasValue z (ltb n k) (rest k n) 1) (sym (add-at binary32 x (neg y) false true n k 1 (zero-lt-suc 0) v (neg-value y k w)))
+    (go (ltb n k))
   where
-    go : (b : Bool) → HasValue (cond b (round binary32 true (12582912 - n) 1) (round binary32 false (n - 12582912) 1)) b (apart b n) 1
-    go true = round-whole binary32 true (12582912 - n) (omega arith)
-    go false = round-whole binary32 false (n - 12582912) (omega arith)
+    go : (b : Bool) → HasValue (cond b (round binary32 true (k - n) 1) (round binary32 false (n - k) 1)) b (apart k b n) 1
+    go true = round-whole binary32 true (k - n) (omega arith)
+    go false = round-whole binary32 false (n - k) (omega arith)
+
+-- ---- what the code reads
+
+pub read-is : (v : ℕ) → v < 65536 → div binary32 (sub binary32 (ofInt binary32 (pos ((v + 32768) % 65536))) scale) scale ≡ sampleOf v
+unfolding ofInt sampleOf
+read-is v l =
+    let u = (v + 32768) % 65536 in let x = ofInt binary32 (pos u) in
+    quotient (sub binary32 x scale) (ltb u 32768) (rest 32768 u) (small u (ltb u 32768) (omega arith))
+    (rest-value x scale u 32768 (omega arith) (omega arith) (round-whole binary32 false u (omega arith)) (refl, refl))
+    ∙ dite (decLe 32768 v) (λ (h : 32768 ≤ v). high h) (λ (h : 32768 ≤ v → ⊥). low (lt-of-not-le h))
+  where
+    small : (u : ℕ) (b : Bool) → u < 65536 → apart 32768 b u < 65536
+    small u true h = omega arith
+    small u false h = omega arith
+
+    u : ℕ
+    u = (v + 32768) % 65536
+
+    high : 32768 ≤ v → over (ltb u 32768) (rest 32768 u) ≡ cond (ltb v 32768) (over false v) (over true (65536 - v))
+    high h = let e : 32768 - u ≡ 65536 - v = omega (arith, h, l) in rw (lt-ltb u 32768 (omega (arith, h, l)), le-ltb v 32768 h) (ap (over true) e)
+
+    low : v < 32768 → over (ltb u 32768) (rest 32768 u) ≡ cond (ltb v 32768) (over false v) (over true (65536 - v))
+    low h = let e : u - 32768 ≡ v = omega (arith, h) in rw (le-ltb u 32768 (omega (arith, h)), lt-ltb v 32768 h) (ap (over false) e)

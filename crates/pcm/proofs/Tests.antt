@@ -1,5 +1,5 @@
 -- The code's test of a number, and the word that it makes of one that passes, are the definitions'. Assumes nothing.
-use Rattle.sequences.proofs.Basics.{zero, suc, zero-mul, lt-of-le-of-lt, le→leb, mul-lt-mul-of-pos-right, le-of-suc-le-suc, _≡_, refl, sym, ap, ap₂, _∙_}
+use Rattle.sequences.proofs.Basics.{lit≤, zero, suc, zero-mul, lt-of-le-of-lt, le→leb, mul-lt-mul-of-pos-right, le-of-suc-le-suc, _≡_, refl, sym, ap, ap₂, _∙_}
 use Rattle.sequences.proofs.Basics.{subst, ℕ, _+_, _-_, _*_, _/_, _%_, _^_, _<_, _≤_, mul-one, mul-right-comm, mul-le-mul-right, mul-mod-left, lt-of-not-le}
 use Rattle.sequences.proofs.Basics.{zero-lt-suc, lt-of-lt-of-le, le-trans, div-lt-iff-lt-mul, arith, decLe, ℕ-discrete, dite, Bool, true, false, cond, _&&_}
 use Rattle.sequences.proofs.Basics.{T, ltb, leb, eqb, lt-ltb, le-ltb, le-leb, lt-leb, eq-eqb, ne-eqb, lit<}
@@ -19,7 +19,7 @@ use Rattle.pcm.proofs.Steps.{moved, product-is, product-at, product-exa
 -- ---- of naturals: whether a / b is whole
 
 -- what is left of 3 * 2 ^ 22 with q added or taken away is q
-rest-level : (s : Bool) (q b : ℕ) → q < 12582912 → level (ltb (moved s 12582912 q) 12582912) (rest (moved s 12582912 q) * b) s (q * b) ≡ true
+rest-level : (s : Bool) (q b : ℕ) → q < 12582912 → level (ltb (moved s 12582912 q) 12582912) (rest 12582912 (moved s 12582912 q) * b) s (q * b) ≡ true
 rest-level false q b l =
     let left : 12582912 + q - 12582912 ≡ q = omega arith in
     rw (le-ltb (12582912 + q) 12582912 (omega arith), left, eq-eqb (q * b) (q * b) refl)
@@ -35,16 +35,16 @@ moved-mul false n q b = omega arith
 
 -- n is 3 * 2 ^ 22 with a / b added or taken away, rounded: what is left of it is a / b only if that is whole
 whole-level : (s : Bool) (a b n : ℕ) → 0 < b → a < 12582912 * b → n ≡ closest (moved s (12582912 * b) a) b
-    → level (ltb n 12582912) (rest n * b) s a ≡ eqb (a % b) 0
+    → level (ltb n 12582912) (rest 12582912 n * b) s a ≡ eqb (a % b) 0
 whole-level s a b n B l e = dite (ℕ-discrete (a % b) 0) (λ (z : a % b ≡ 0).
     let q = a / b in
     let w : q * b ≡ a = whole-div a b z in
     let is : n ≡ moved s 12582912 q =
     e ∙ ap (λ (c : ℕ). closest (moved s (12582912 * b) c) b) (sym w) ∙ ap (λ (c : ℕ). closest c b) (moved-mul s 12582912 q b)
     ∙ closest-whole (moved s 12582912 q) b B in
-    ap₂ (λ (n a : ℕ). level (ltb n 12582912) (rest n * b) s a) is (sym w) ∙ rest-level s q b (div-lt-iff-lt-mul B .1 l) ∙ sym (eq-eqb (a % b) 0 z))
+    ap₂ (λ (n a : ℕ). level (ltb n 12582912) (rest 12582912 n * b) s a) is (sym w) ∙ rest-level s q b (div-lt-iff-lt-mul B .1 l) ∙ sym (eq-eqb (a % b) 0 z))
     (λ (z : a % b ≡ 0 → ⊥). rw (
-      ne-eqb (rest n * b) a (λ (h : rest n * b ≡ a). z (ap (λ (c : ℕ). c % b) (sym h) ∙ mul-mod-left (rest n) b)),
+      ne-eqb (rest 12582912 n * b) a (λ (h : rest 12582912 n * b ≡ a). z (ap (λ (c : ℕ). c % b) (sym h) ∙ mul-mod-left (rest 12582912 n) b)),
       ne-eqb (a % b) 0 z,
     ))
 
@@ -81,10 +81,11 @@ module _ (v : Float) (s : Bool) (a b : ℕ) (B : 0 < b) (val : HasValue v s a b)
       let t = moved s (12582912 * b) a in let n = closest t b in
       let (small, w) = nearest-whole t b B (moved-least s u) (moved-most s u) in
       let w' : HasValue (add binary32 v shift) false n 1 = subst (λ (x : Float). HasValue x false n 1) (sym (total-is v s a b B (omega arith) val)) w in
-      let r = rest-value (add binary32 v shift) n small w' in
-      eq-at (sub binary32 (add binary32 v shift) shift) v (ltb n 12582912) s (rest n * b) a b B
-      (of-value (λ (x : Float). HasValue x (ltb n 12582912) (rest n * b) b) (sub binary32 (add binary32 v shift) shift) (ltb n 12582912) (rest n) 1 r
-      (λ m e p. (refl, over (m * up e) (rest n) (down e) p))) val
+      let r = rest-value (add binary32 v shift) shift n 12582912 small (lit≤ tt) w' (refl, refl) in
+      eq-at (sub binary32 (add binary32 v shift) shift) v (ltb n 12582912) s (rest 12582912 n * b) a b B
+      (of-value (λ (x : Float). HasValue x (ltb n 12582912) (rest 12582912 n * b) b) (sub binary32 (add binary32 v shift) shift) (ltb n 12582912)
+      (rest 12582912 n) 1 r
+      (λ m e p. (refl, over (m * up e) (rest 12582912 n) (down e) p))) val
       ∙ whole-level s a b n B (omega arith) refl
     where
       moved-least : (s : Bool) → a ≤ 32768 * b → 8388608 * b ≤ moved s (12582912 * b) a

@@ -1,20 +1,21 @@
 -- What a reader opens first: reading answers what measuring does; a file that was written is read as its samples, as numbers, and its rate; a file of 44
 -- bytes and its samples that was read is written byte for byte; and windows of 24 bytes tell what the whole file does. Assumes nothing.
-use Rattle.sequences.proofs.Basics.{_≡_, sym, ap, ap₂, _∙_, subst, ℕ, _+_, _-_, _*_, _<_, _≤_, min, arith, true, T, List, _++_, length, getD, take, drop}
+use Rattle.sequences.proofs.Basics.{_≡_, sym, ap, ap₂, _∙_, subst, ℕ, _+_, _-_, _*_, _<_, _≤_, min, arith, true, false, T, List, _++_, length, getD, take, drop}
 use lib.IntN.{pos}
 use lib.Ieee.{Float, nan, fin, binary32, eq}
 use lib.Ieee.{fits as Ieee·fits}
+use lib.Ieee.Exact.{HasValue}
 use Rattle.refusal.specs.Refusal.{left}
 use Rattle.refusal.specs.declared.Refusal.{Refusal}
 use Rattle.refusal.specs.declared.Refusal.the-variants.{Length}
 use Rattle.refusal.specs.declared.Verdict.{Verdict}
 use Rattle.refusal.specs.declared.Verdict.the-variants.{Accepted, Refused}
 use Rattle.refusal.proofs.Rows.{settled}
-use Rattle.little.specs.Numbers.{Bytes}
+use Rattle.little.specs.Numbers.{numberAt, Bytes}
 use Rattle.little.proofs.Numbers.{number-below}
 use Rattle.pcm.specs.Samples.{sampleOf, samplesAt, wordOf, firstUnfit, sampleBytes}
 use Rattle.pcm.proofs.Bytes.{all-fit, length-bytes}
-use Rattle.pcm.proofs.Theorems.{written-equal, written-same, samples-length, read-fit, read-bytes, written-at}
+use Rattle.pcm.proofs.Theorems.{sample-value, written-equal, written-same, samples-length, samples-at, read-fit, read-bytes, written-at}
 use Rattle.chunks.specs.Chunks.{samplesFrom, walkIn, walkOf}
 use Rattle.chunks.specs.declared.inner.walk.Walk.{Walk}
 use Rattle.chunks.proofs.Windows.{walk-window}
@@ -52,6 +53,20 @@ module _ (file : List ℕ) (m : Wav) (before after : List Float) (r : Wav) (meas
   -- and what is refused as no recording is refused in the same way
   pub measure-refused : (why : Refusal) → m .verdict ≡ Refused why → r ≡ m
   measure-refused why a = read-is (Refused why) (read-refused file (length before) why (verdict-is (Refused why) a)) ∙ sym (measured-is (Refused why) a)
+
+-- ---- the numbers that are read
+
+module _ (file : List ℕ) (before after : List Float) (r : Wav) (reads : Reads file before r after) (a : r .verdict ≡ Accepted) where
+  -- sample i is the number v of its two bytes, or from 32,768 on 65,536 less, divided by 32,768: no rounding, no infinity and no NaN
+  pub read-values : (i v : ℕ) → i < r .samples → numberAt 2 file (walkOf file .at + 2 * i) ≡ v
+      → (v < 32768 → HasValue (getD after i nan) false v 32768) × (32768 ≤ v → v < 65536 → HasValue (getD after i nan) true (65536 - v) 32768)
+  read-values i v l e =
+      let w = walkOf file in let ok = sym (read-by file before after r reads) ∙ a in
+      let n : r .samples ≡ w .samples = ap (λ (x : Wav). x .samples) (reads .answer ∙ ap (λ (u : Verdict). told u w) ok) in
+      let is : getD after i nan ≡ sampleOf v = ap (λ (ys : List Float). getD ys i nan)
+      (reads .cells ∙ ap (λ (u : Verdict). left u (samplesAt file (w .at) (w .samples)) before) ok)
+      ∙ samples-at file (w .at) (w .samples) i (omega (arith, l, n)) ∙ ap sampleOf e in
+      (λ h. rw is (sample-value v .0 h), λ h k. rw is (sample-value v .1 h k))
 
 -- ---- a file that was written
 

@@ -6,15 +6,12 @@ ghost use lib.ListN.{length};
 ghost use Rattle.sequences.specs.Lists.{pasted};
 ghost use Rattle.pcm.specs.Samples.{sampleOf, fits as Samples·fits, wordOf, samplesAt, firstUnfit, sampleBytes};
 
-// The f32 of a sample whose two bytes are the number v.
+// The f32 of a sample whose two bytes are the number v: counted from -32,768 on, so that there is no choice and a loop takes several at a time.
 fn sample(v: u32) -> f32
     requires { ⌜ v < 65536 ⌝ }
     ensures { λ r. ⌜ r ≡ sampleOf v ⌝ }
 {
-    if v < 32768 {
-        return v as f32 / 32768.0;
-    }
-    (65536 - v) as f32 / -32768.0
+    (((v + 32768) % 65536) as f32 - 32768.0) / 32768.0
 }
 
 // The samples whose bytes stand from a place on.
