@@ -11,6 +11,7 @@ use Rattle.pcm.specs.Samples.{samplesAt, firstUnfit}
 use Rattle.chunks.specs.Chunks.{walkOf}
 use Rattle.chunks.specs.declared.inner.walk.Walk.{Walk}
 use Rattle.chunks.proofs.Walks.{walk-inside}
+use Rattle.wav.specs.Header.{mostSamples}
 use Rattle.wav.specs.Wav.{none, told, Measures, withRoom, readVerdict, Reads, writeVerdict}
 use Rattle.wav.specs.declared.Wav.{Wav}
 
@@ -57,18 +58,18 @@ module _ (file : List ℕ) (w : Walk) (is : w ≡ walkOf file) where
 
 -- what an accepted writing tells
 pub write-told : (rate : ℕ) (xs : List Float) (file : ℕ) (v : Verdict) → v ≡ writeVerdict rate xs file → v ≡ Accepted
-    → (length xs ≤ 2147483629) × (file ≡ 44 + 2 * length xs) × (length xs ≤ firstUnfit xs) × (0 < rate) × (rate ≤ 192000)
+    → (length xs ≤ mostSamples) × (file ≡ 44 + 2 * length xs) × (length xs ≤ firstUnfit xs) × (0 < rate) × (rate ≤ 192000)
 unfolding writeVerdict
 write-told rate xs file v e a = go (sym e ∙ a)
   where
     go : writeVerdict rate xs file ≡ Accepted
-        → (length xs ≤ 2147483629) × (file ≡ 44 + 2 * length xs) × (length xs ≤ firstUnfit xs) × (0 < rate) × (rate ≤ 192000)
+        → (length xs ≤ mostSamples) × (file ≡ 44 + 2 * length xs) × (length xs ≤ firstUnfit xs) × (0 < rate) × (rate ≤ 192000)
     go t =
         let some : rate ≡ 0 → ⊥ = search accepted depth 20 in
         (search accepted depth 20, search accepted depth 20, search accepted depth 20, omega (arith, some), search accepted depth 20)
 
 -- and when one is accepted
-pub write-accepted : (rate : ℕ) (xs : List Float) (file : ℕ) → 0 < rate → rate ≤ 192000 → length xs ≤ 2147483629 → file ≡ 44 + 2 * length xs
+pub write-accepted : (rate : ℕ) (xs : List Float) (file : ℕ) → 0 < rate → rate ≤ 192000 → length xs ≤ mostSamples → file ≡ 44 + 2 * length xs
     → length xs ≤ firstUnfit xs → writeVerdict rate xs file ≡ Accepted
 unfolding writeVerdict
 write-accepted rate xs file some most few long fit =

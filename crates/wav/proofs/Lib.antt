@@ -4,3 +4,4 @@ pub mod Files
 pub mod Plain
 pub mod Unique
 pub mod Theorems
+pub mod Listed

@@ -13,7 +13,7 @@ use Rattle.fields.proofs.Told.{head-fields, head-accepted, format-fields, forma
 use Rattle.chunks.proofs.Steps.{marks-apart, step-data, step-format}
 use Rattle.chunks.proofs.Walks.{walked-on, walked-ended}
 use Rattle.chunks.proofs.Tight.{tight}
-use Rattle.wav.specs.Header.{headerOf}
+use Rattle.wav.specs.Header.{mostSamples, headerOf}
 
 -- the fields of a plain file of n samples
 pub record Plain (file : List ℕ) (rate n : ℕ) : Type 0 where
@@ -92,7 +92,7 @@ tight-plain file a long =
     }
 
 -- the 44 bytes before any others are one
-pub header-plain : (rate n : ℕ) (rest : List ℕ) → 0 < rate → rate ≤ 192000 → n ≤ 2147483629 → length rest ≡ 2 * n
+pub header-plain : (rate n : ℕ) (rest : List ℕ) → 0 < rate → rate ≤ 192000 → n ≤ mostSamples → length rest ≡ 2 * n
     → Plain (headerOf rate n ++ rest) rate n
 unfolding numberAt headerOf
 header-plain rate n rest some most few long =

@@ -1,6 +1,7 @@
 -- What a reader opens first: reading answers what measuring does; a file that was written is read as its samples, as numbers, and its rate; a file of 44
--- bytes and its samples that was read is written byte for byte; and windows of 24 bytes tell what the whole file does. Assumes nothing.
-use Rattle.sequences.proofs.Basics.{_≡_, sym, ap, ap₂, _∙_, subst, ℕ, _+_, _-_, _*_, _<_, _≤_, min, arith, true, false, T, List, _++_, length, getD, take, drop}
+-- bytes and its samples that was read is written byte for byte; and a reader with a small window measures and reads a file of any length. Assumes nothing.
+use Rattle.sequences.proofs.Basics.{_≡_, sym, ap, ap₂, _∙_, subst, ℕ, _+_, _-_, _*_, _<_, _≤_, min, arith, true, false, T, List, _++_, length, getD, take}
+use Rattle.sequences.proofs.Basics.{drop, take-at, drop-at}
 use lib.IntN.{pos}
 use lib.Ieee.{Float, nan, fin, binary32, eq}
 use lib.Ieee.{fits as Ieee·fits}
@@ -15,11 +16,12 @@ use Rattle.little.specs.Numbers.{numberAt, Bytes}
 use Rattle.little.proofs.Numbers.{number-below}
 use Rattle.pcm.specs.Samples.{sampleOf, samplesAt, wordOf, firstUnfit, sampleBytes}
 use Rattle.pcm.proofs.Bytes.{all-fit, length-bytes}
-use Rattle.pcm.proofs.Theorems.{sample-value, written-equal, written-same, samples-length, samples-at, read-fit, read-bytes, written-at}
+use Rattle.pcm.proofs.Theorems.{sample-value, written-equal, written-same, samples-length, samples-at, samples-cut, samples-window, read-fit, read-bytes}
+use Rattle.pcm.proofs.Theorems.{written-at}
 use Rattle.chunks.specs.Chunks.{samplesFrom, walkIn, walkOf}
 use Rattle.chunks.specs.declared.inner.walk.Walk.{Walk}
 use Rattle.chunks.proofs.Windows.{walk-window}
-use Rattle.wav.specs.Header.{headerOf}
+use Rattle.wav.specs.Header.{mostSamples, headerOf}
 use Rattle.wav.specs.Wav.{none, told, Measures, readVerdict, Reads, fileOf, Writes}
 use Rattle.wav.specs.declared.Wav.{Wav}
 use Rattle.wav.proofs.Calls.{measured, read-by, read-told, read-accepted, read-short, read-refused, write-told, write-accepted}
@@ -71,7 +73,7 @@ module _ (file : List ℕ) (before after : List Float) (r : Wav) (reads : Reads 
 -- ---- a file that was written
 
 module _ (rate : ℕ) (xs : List Float) (before file : List ℕ) (v : Verdict) (writes : Writes rate xs before v file) (a : v ≡ Accepted) where
-  abbrev tells : (length xs ≤ 2147483629) × (length before ≡ 44 + 2 * length xs) × (length xs ≤ firstUnfit xs) × (0 < rate) × (rate ≤ 192000)
+  abbrev tells : (length xs ≤ mostSamples) × (length before ≡ 44 + 2 * length xs) × (length xs ≤ firstUnfit xs) × (0 < rate) × (rate ≤ 192000)
   tells = write-told rate xs (length before) v (writes .answer) a
 
   file-is : file ≡ fileOf rate xs
@@ -149,7 +151,7 @@ module _ (file : List ℕ) (bytes : Bytes file) (out samples : List Float) (r : 
       ∙ ap (λ (k : ℕ). samplesAt file k (w .samples)) (ap (λ (x : Walk). x .at) walk) in
       let many : length samples ≡ w .samples = ap length cells ∙ samples-length file 44 (w .samples) in
       let fit = subst (λ (xs : List Float). length xs ≤ firstUnfit xs) (sym cells) (read-fit file bytes 44 (w .samples)) in
-      let few : length samples ≤ 2147483629 = omega (arith, p .whole, number-below 4 file 4 bytes, many) in
+      let few : length samples ≤ mostSamples = omega (arith, p .whole, number-below 4 file 4 bytes, many) in
       let ok = write-accepted (r .rate) samples (length before) (omega (arith, rate, p .some)) (omega (arith, rate, p .most)) few
       (omega (arith, e, p .long, many)) fit in (
         writes .answer ∙ ok,
@@ -162,3 +164,21 @@ module _ (file : List ℕ) (bytes : Bytes file) (out samples : List Float) (r : 
 pub measure-windows : (file : List ℕ) (size : ℕ → ℕ) → ((at : ℕ) → min 24 (length file - at) ≤ size at) → (m : Wav) → Measures file m
     → m ≡ told (walkIn (λ at. take (size at) (drop at file)) (length file) .verdict) (walkIn (λ at. take (size at) (drop at file)) (length file))
 measure-windows file size enough m c = c .answer ∙ ap (λ (w : Walk). told (w .verdict) w) (sym (walk-window file size enough))
+
+-- and any samples that are read are those of any window that holds their bytes, from the place on where the walk through windows finds them
+pub read-windows : (file : List ℕ) (size : ℕ → ℕ) → ((at : ℕ) → min 24 (length file - at) ≤ size at) → (before after : List Float) (r : Wav)
+    → Reads file before r after → r .verdict ≡ Accepted → (i m p k from : ℕ) → i + m ≤ r .samples
+    → p + from ≡ walkIn (λ at. take (size at) (drop at file)) (length file) .at + 2 * i → from + 2 * m ≤ k
+    → take m (drop i after) ≡ samplesAt (take k (drop p file)) from m
+read-windows file size enough before after r reads a i m p k from l e h =
+    let w = walkOf file in let ok = sym (read-by file before after r reads) ∙ a in
+    let n : r .samples ≡ w .samples = ap (λ (x : Wav). x .samples) (reads .answer ∙ ap (λ (u : Verdict). told u w) ok) in
+    let place : w .at + 2 * i ≡ p + from = sym (e ∙ ap (λ (x : Walk). x .at + 2 * i) (walk-window file size enough)) in
+    let rest = w .samples - (i + m) in let all : w .samples ≡ i + (m + rest) = omega (arith, l, n) in
+    let front = samplesAt file (w .at) i in let mid = samplesAt file (w .at + 2 * i) m in let back = samplesAt file (w .at + 2 * i + 2 * m) rest in
+    let cells : after ≡ front ++ (mid ++ back) = reads .cells ∙ ap (λ (u : Verdict). left u (samplesAt file (w .at) (w .samples)) before) ok
+    ∙ ap (samplesAt file (w .at)) all ∙ samples-cut file (w .at) i (m + rest)
+    ∙ ap (λ (ys : List Float). front ++ ys) (samples-cut file (w .at + 2 * i) m rest) in
+    ap (λ (ys : List Float). take m (drop i ys)) cells
+    ∙ ap (take m) (drop-at front (mid ++ back) i (samples-length file (w .at) i)) ∙ take-at mid back m (samples-length file (w .at + 2 * i) m)
+    ∙ ap (λ (j : ℕ). samplesAt file j m) place ∙ sym (samples-window file p k from m h)

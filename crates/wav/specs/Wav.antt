@@ -15,7 +15,7 @@ use Rattle.pcm.specs.Samples.{samplesAt, firstUnfit, sampleBytes}
 use Rattle.fields.specs.Fields.{noRate}
 use Rattle.chunks.specs.Chunks.{walkOf}
 use Rattle.chunks.specs.declared.inner.walk.Walk.{Walk}
-use Rattle.wav.specs.Header.{headerOf}
+use Rattle.wav.specs.Header.{mostSamples, headerOf}
 use Rattle.wav.specs.declared.Wav.{Wav}
 
 -- beside a refusal stand 0 and 0
@@ -46,7 +46,7 @@ pub record Reads (file : List ℕ) (before : List Float) (r : Wav) (after : List
 
 -- 17 at 24 for a rate, 8 at 0 for too many samples, 8 at 1 for a file of another length, 9 for a sample that does not fit
 unfoldable pub writeVerdict : (rate : ℕ) (xs : List Float) (file : ℕ) → Verdict
-writeVerdict rate xs file = verdict (noRate rate ⇒ NoWav 24 ∷ ltb 2147483629 (length xs) ⇒ Length 0 ∷ not (eqb file (44 + 2 * length xs)) ⇒ Length 1
+writeVerdict rate xs file = verdict (noRate rate ⇒ NoWav 24 ∷ ltb mostSamples (length xs) ⇒ Length 0 ∷ not (eqb file (44 + 2 * length xs)) ⇒ Length 1
     ∷ ltb (firstUnfit xs) (length xs) ⇒ Number (firstUnfit xs) ∷ [])
 
 -- a file of samples

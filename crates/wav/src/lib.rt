@@ -4,6 +4,7 @@ pub mod inner;
 use crate::inner::header::header;
 use crate::inner::header::lay;
 use chunks::inner::walk::walk_over;
+use fields::inner::fields::FASTEST;
 use pcm::inner::samples::first_unfit;
 use pcm::inner::samples::read_samples;
 use pcm::inner::samples::write_samples;
@@ -75,7 +76,7 @@ fn lent(rate: u32, samples: &[f32], file: usize) -> Verdict
     if rate == 0 {
         return Verdict::Refused(Refusal::Wav(24));
     }
-    if rate > 192000 {
+    if rate as usize > FASTEST {
         return Verdict::Refused(Refusal::Wav(24));
     }
     let n = samples.len();

@@ -12,11 +12,7 @@ ghost use lib.ListN.{length};
 ghost use Rattle.refusal.specs.declared.Verdict.the-variants.{Refused};
 ghost use Rattle.chunks.specs.Chunks.{chunkAt, going, atData, atFormat, atOther, begun, stepped, walkOf};
 
-// 'RIFF', 'WAVE', 'fmt ' and 'data', each the number of its four letters.
-const RIFF: usize = 1179011410;
-
-const WAVE: usize = 1163280727;
-
+// 'fmt ' and 'data', each the number of its four letters.
 const FORMAT: usize = 544501094;
 
 const DATA: usize = 1635017060;

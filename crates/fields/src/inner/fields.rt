@@ -14,6 +14,9 @@ const RIFF: usize = 1179011410;
 
 const WAVE: usize = 1163280727;
 
+// The largest rate.
+pub const FASTEST: usize = 192000;
+
 // The verdict on a file's mark.
 pub fn head(window: &[u8], total: usize) -> Verdict
     requires { ⌜ min 12 total ≤ length (now window) ⌝ }
@@ -80,7 +83,7 @@ fn rate(window: &[u8], at: usize, total: usize) -> Verdict
     if rate == 0 {
         return Verdict::Refused(Refusal::Wav(at + 12));
     }
-    if rate > 192000 {
+    if rate > FASTEST {
         return Verdict::Refused(Refusal::Wav(at + 12));
     }
     if left < 20 {

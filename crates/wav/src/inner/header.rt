@@ -3,16 +3,16 @@ ghost use mathlib.Core.Path.{_≡_};
 ghost use Prim.Native.Nat.{_≤_};
 ghost use lib.ListN.{length};
 ghost use Rattle.sequences.specs.Lists.{pasted};
-ghost use Rattle.wav.specs.Header.{headerOf};
+ghost use Rattle.wav.specs.Header.{mostSamples, headerOf};
 
 // The 44 bytes for a rate and so many samples.
 pub fn header(rate: u32, samples: usize) -> [u8; 44]
-    requires { ⌜ samples ≤ 2147483629 ⌝ }
+    requires { ⌜ samples ≤ mostSamples ⌝ }
     ensures { λ r. ⌜ r ≡ headerOf rate samples ⌝ }
 {
     let whole = 36 + 2 * samples;
-    let second = rate as usize;
-    let bytes = 2 * second;
+    let hertz = rate as usize;
+    let bytes = 2 * hertz;
     let size = 2 * samples;
     [
         b'R',
@@ -39,10 +39,10 @@ pub fn header(rate: u32, samples: usize) -> [u8; 44]
         0,
         1,
         0,
-        (second % 256) as u8,
-        (second / 256 % 256) as u8,
-        (second / 256 / 256 % 256) as u8,
-        (second / 256 / 256 / 256 % 256) as u8,
+        (hertz % 256) as u8,
+        (hertz / 256 % 256) as u8,
+        (hertz / 256 / 256 % 256) as u8,
+        (hertz / 256 / 256 / 256 % 256) as u8,
         (bytes % 256) as u8,
         (bytes / 256 % 256) as u8,
         (bytes / 256 / 256 % 256) as u8,
