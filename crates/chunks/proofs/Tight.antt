@@ -1,7 +1,6 @@
 -- A file of 44 bytes and its samples holds a format and the samples, and nothing else. Assumes nothing.
 use Rattle.sequences.proofs.Basics.{_≡_, refl, sym, ap, _∙_, subst, ℕ, zero, suc, _+_, _-_, _*_, _/_, _≤_, _<_, arith, Bool, true, false, true≢false, cond}
-use Rattle.sequences.proofs.Basics.{List, length}
-use Rattle.sequences.proofs.Basics.{drop, eqb, eq-eqb, ne-eqb, le-refl, lit≤}
+use Rattle.sequences.proofs.Basics.{List, length, drop, eqb, eq-eqb, ne-eqb, le-refl, lit≤}
 use Rattle.refusal.specs.Refusal.{verdict}
 use Rattle.refusal.specs.declared.Refusal.{Refusal}
 use Rattle.refusal.specs.declared.Refusal.the-variants.{Wav}
@@ -9,9 +8,7 @@ use Rattle.refusal.specs.declared.Verdict.{Verdict}
 use Rattle.refusal.specs.declared.Verdict.the-variants.{Accepted, Refused}
 use Rattle.little.specs.Numbers.{numberAt}
 use Rattle.fields.specs.Fields.{mark, padded, headRows, dataRows, formatRows, otherRows}
-use Rattle.chunks.specs.Chunks.{chunkAt, samplesFrom, going, begun, atData, atFormat, atOther}
-use Rattle.chunks.specs.Chunks.{stepped}
-use Rattle.chunks.specs.Chunks.{walked, walkIn, walkOf}
+use Rattle.chunks.specs.Chunks.{chunkAt, samplesFrom, going, begun, atData, atFormat, atOther, stepped, walked, walkIn, walkOf}
 use Rattle.chunks.specs.declared.inner.walk.Walk.{Walk}
 use Rattle.fields.proofs.Told.{head-told, format-told, data-told}
 use Rattle.chunks.proofs.Going.{ends, going-cases}

@@ -1,16 +1,13 @@
 -- The walk: each chunk takes 8 bytes at least and stays inside the file, so that it ends, and more steps than that change nothing. Assumes nothing.
 use Rattle.sequences.proofs.Basics.{_≡_, refl, sym, ap, _∙_, subst, ℕ, zero, suc, _+_, _-_, _*_, _/_, _≤_, _<_, arith, Bool, true, false, false≢true, cond}
-use Rattle.sequences.proofs.Basics.{List, length}
-use Rattle.sequences.proofs.Basics.{dite, decLt, ℕ-discrete}
+use Rattle.sequences.proofs.Basics.{List, length, dite, decLt, ℕ-discrete}
 use Rattle.refusal.specs.Refusal.{verdict}
 use Rattle.refusal.specs.declared.Refusal.{Refusal}
 use Rattle.refusal.specs.declared.Refusal.the-variants.{Wav}
 use Rattle.refusal.specs.declared.Verdict.the-variants.{Accepted}
 use Rattle.little.specs.Numbers.{numberAt}
 use Rattle.fields.specs.Fields.{mark, padded, headRows, dataRows, formatRows, otherRows}
-use Rattle.chunks.specs.Chunks.{chunkAt, samplesFrom, begun, atData, atFormat, atOther}
-use Rattle.chunks.specs.Chunks.{stepped}
-use Rattle.chunks.specs.Chunks.{onBy, walked, walkIn, walkOf}
+use Rattle.chunks.specs.Chunks.{chunkAt, samplesFrom, begun, atData, atFormat, atOther, stepped, onBy, walked, walkIn, walkOf}
 use Rattle.chunks.specs.declared.inner.walk.Walk.{Walk}
 use Rattle.fields.proofs.Told.{head-told, format-told, data-told, other-told}
 use Rattle.chunks.proofs.Going.{ends, going-cases}

@@ -1,7 +1,6 @@
 -- Laws of numbers of several bytes: in a part of a list, from bytes, and back. Assumes nothing.
 use Rattle.sequences.proofs.Basics.{_≡_, refl, sym, ap, ap₂, _∙_, ℕ, zero, suc, _+_, _*_, _/_, _%_, _^_, _≤_, _<_, arith, List, _∷_, _++_, length, getD, take}
-use Rattle.sequences.proofs.Basics.{drop}
-use Rattle.sequences.proofs.Basics.{getD-drop, getD-take, drop-cons, div-lt-iff-lt-mul, pow-suc, lit<}
+use Rattle.sequences.proofs.Basics.{drop, getD-drop, getD-take, drop-cons, div-lt-iff-lt-mul, pow-suc, lit<}
 use Rattle.little.specs.Numbers.{numberAt, Bytes, bytesOf}
 
 -- two bytes
@@ -51,8 +50,3 @@ number-bytes (suc n) v more h =
     sym (number-drop n (low ∷ (bytesOf n (v / 256) ++ more)) 1 0)
     ∙ number-bytes n (v / 256) more (div-lt-iff-lt-mul (lit< tt) .1 (omega (arith, h, pow-suc 256 n))) in
     omega (arith, high)
-
--- the length of bytes
-pub length-bytes : (n v : ℕ) → length (bytesOf n v) ≡ n
-length-bytes zero v = refl
-length-bytes (suc n) v = ap suc (length-bytes n (v / 256))

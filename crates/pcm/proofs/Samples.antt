@@ -5,8 +5,7 @@ use Rattle.sequences.proofs.Basics.{div-add-mod', zero-lt-suc, arith, decLe, di
 use Rattle.sequences.proofs.Basics.{leb-true, eqb-true, lit<, lit≤}
 use lib.IntN.{pos}
 use lib.Count.{trailingZeros}
-use lib.Ieee.{Float, nan, inf, fin, binary32, up, down, minus, odd, unlike, round, div}
-use lib.Ieee.{fits as Ieee·fits}
+use lib.Ieee.{Float, nan, inf, fin, binary32, up, down, minus, odd, unlike, round, div, fits as Ieee·fits}
 use lib.Ieee.Fits.{down-pos, odd-fits, round-fits}
 use lib.Ieee.Exact.{HasValue, odd-sign, round-exact}
 use lib.Ieee.Scale.{round-same}

@@ -4,8 +4,7 @@ use Rattle.sequences.proofs.Basics.{_≡_, refl, sym, ap, ap₂, _∙_, ℕ, ze
 use Rattle.sequences.proofs.Basics.{arith, decLe, dite, Bool, true, false, Bool·beq, _||_, _⊎_, inl, inr, ⊎-elim, eqb, cond, T, lt-ltb, le-ltb, eq-eqb, List}
 use Rattle.sequences.proofs.Basics.{_++_, take, drop, getD, length, length-append, List·getD-append, getD-append-add, getD-drop, length-drop, not, _/_}
 use lib.IntN.{pos}
-use lib.Ieee.{Float, nan, inf, fin, binary32, odd, eq}
-use lib.Ieee.{fits as Ieee·fits}
+use lib.Ieee.{Float, nan, inf, fin, binary32, odd, eq, fits as Ieee·fits}
 use lib.Ieee.Exact.{HasValue}
 use Rattle.sequences.specs.Lists.{tabulate}
 use Rattle.sequences.specs.Pairs.{pairAt}

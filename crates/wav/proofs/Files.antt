@@ -14,13 +14,6 @@ pub header-length : (rate n : ℕ) → length (headerOf rate n) ≡ 44
 unfolding headerOf
 header-length rate n = refl
 
--- and two for each sample
-pub file-length : (rate : ℕ) (xs : List Float) → length (fileOf rate xs) ≡ 44 + 2 * length xs
-unfolding fileOf
-file-length rate xs =
-    let n = length xs in
-    length-append (headerOf rate n) (sampleBytes xs) ∙ omega (arith, header-length rate n, length-bytes xs)
-
 -- bytes laid behind the first ones to the end
 end-pasted : (head rest tail : List ℕ) → length rest ≡ length tail → pasted (head ++ rest) (length head) tail ≡ head ++ tail
 end-pasted head rest tail e =

@@ -3,8 +3,7 @@
 use Rattle.sequences.proofs.Basics.{_≡_, sym, ap, ap₂, _∙_, subst, ℕ, _+_, _-_, _*_, _<_, _≤_, min, arith, true, false, T, List, _++_, length, getD, take}
 use Rattle.sequences.proofs.Basics.{drop, take-at, drop-at}
 use lib.IntN.{pos}
-use lib.Ieee.{Float, nan, fin, binary32, eq}
-use lib.Ieee.{fits as Ieee·fits}
+use lib.Ieee.{Float, nan, fin, binary32, eq, fits as Ieee·fits}
 use lib.Ieee.Exact.{HasValue}
 use Rattle.refusal.specs.Refusal.{left}
 use Rattle.refusal.specs.declared.Refusal.{Refusal}
