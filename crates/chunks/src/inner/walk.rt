@@ -10,6 +10,7 @@ ghost use mathlib.Core.Path.{_≡_};
 ghost use Prim.Native.Nat.{_-_, _≤_, min};
 ghost use lib.ListN.{length};
 ghost use Rattle.refusal.specs.declared.Verdict.the-variants.{Refused};
+ghost use Rattle.fields.specs.Parts.{Shows};
 ghost use Rattle.chunks.specs.Chunks.{chunkAt, going, atData, atFormat, atOther, begun, stepped, walkOf};
 
 // 'fmt ' and 'data', each the number of its four letters.
@@ -66,7 +67,7 @@ pub fn begin(window: &[u8], total: usize) -> Walk
 
 // The walk at a chunk of samples, where the format before it had this rate.
 fn samples(window: &[u8], at: usize, rate: u32, total: usize) -> Walk
-    requires { ⌜ (at ≤ total) × (4 ≤ total - at) × (min 24 (total - at) ≤ length (now window)) ⌝ }
+    requires { ⌜ Shows (now window) at total 4 ⌝ }
     ensures { λ r. ⌜ r ≡ atData (now (window .entry)) at rate total ⌝ }
 {
     match data(window, at, rate, total) {
@@ -83,7 +84,7 @@ fn samples(window: &[u8], at: usize, rate: u32, total: usize) -> Walk
 
 // The walk after the first format.
 fn first_format(window: &[u8], at: usize, total: usize) -> Walk
-    requires { ⌜ (at ≤ total) × (4 ≤ total - at) × (min 24 (total - at) ≤ length (now window)) ⌝ }
+    requires { ⌜ Shows (now window) at total 4 ⌝ }
     ensures { λ r. ⌜ r ≡ atFormat (now (window .entry)) at total ⌝ }
 {
     match format(window, at, total) {
@@ -94,7 +95,7 @@ fn first_format(window: &[u8], at: usize, total: usize) -> Walk
 
 // The walk after a chunk that is skipped, with its pad byte.
 fn skip(window: &[u8], at: usize, rate: u32, total: usize) -> Walk
-    requires { ⌜ (at ≤ total) × (4 ≤ total - at) × (min 24 (total - at) ≤ length (now window)) ⌝ }
+    requires { ⌜ Shows (now window) at total 4 ⌝ }
     ensures { λ r. ⌜ r ≡ atOther (now (window .entry)) at rate total ⌝ }
 {
     match other(window, at, total) {
@@ -108,7 +109,7 @@ fn skip(window: &[u8], at: usize, rate: u32, total: usize) -> Walk
 
 // The walk after the chunk at a place, of which the window holds the first 24 bytes, or all to the file's end.
 pub fn step(window: &[u8], at: usize, rate: u32, total: usize) -> Walk
-    requires { ⌜ (at ≤ total) × (min 24 (total - at) ≤ length (now window)) ⌝ }
+    requires { ⌜ Shows (now window) at total 0 ⌝ }
     ensures { λ r. ⌜ r ≡ stepped (now (window .entry)) at rate total ⌝ }
 {
     if total - at < 4 {

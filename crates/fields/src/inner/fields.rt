@@ -7,6 +7,7 @@ ghost use mathlib.Core.Path.{_≡_};
 ghost use Prim.Native.Nat.{_-_, _≤_, min};
 ghost use lib.ListN.{length};
 ghost use Rattle.refusal.specs.Refusal.{verdict};
+ghost use Rattle.fields.specs.Parts.{Shows};
 ghost use Rattle.fields.specs.Fields.{headRows, kindRows, rateRows, formatRows, dataRows, otherRows};
 
 // 'RIFF' and 'WAVE', each the number of its four letters.
@@ -45,7 +46,7 @@ pub fn head(window: &[u8], total: usize) -> Verdict
 
 // The verdict on the kind of a format.
 fn kind(window: &[u8], at: usize, total: usize) -> Verdict
-    requires { ⌜ (at ≤ total) × (4 ≤ total - at) × (min 24 (total - at) ≤ length (now window)) ⌝ }
+    requires { ⌜ Shows (now window) at total 4 ⌝ }
     ensures { λ r. ⌜ r ≡ verdict (kindRows (now (window .entry)) at (total - at) total) ⌝ }
 {
     let left = total - at;
@@ -72,7 +73,7 @@ fn kind(window: &[u8], at: usize, total: usize) -> Verdict
 
 // The verdict on the rate of a format, and what follows from it.
 fn rate(window: &[u8], at: usize, total: usize) -> Verdict
-    requires { ⌜ (at ≤ total) × (12 ≤ total - at) × (min 24 (total - at) ≤ length (now window)) ⌝ }
+    requires { ⌜ Shows (now window) at total 12 ⌝ }
     ensures { λ r. ⌜ r ≡ verdict (rateRows (now (window .entry)) at (total - at) total) ⌝ }
 {
     let left = total - at;
@@ -109,7 +110,7 @@ fn rate(window: &[u8], at: usize, total: usize) -> Verdict
 
 // The verdict on a format.
 pub fn format(window: &[u8], at: usize, total: usize) -> Verdict
-    requires { ⌜ (at ≤ total) × (4 ≤ total - at) × (min 24 (total - at) ≤ length (now window)) ⌝ }
+    requires { ⌜ Shows (now window) at total 4 ⌝ }
     ensures { λ r. ⌜ r ≡ verdict (formatRows (now (window .entry)) at (total - at) total) ⌝ }
 {
     match kind(window, at, total) {
@@ -120,7 +121,7 @@ pub fn format(window: &[u8], at: usize, total: usize) -> Verdict
 
 // The verdict on a chunk of samples, where the format before it had this rate.
 pub fn data(window: &[u8], at: usize, rate: u32, total: usize) -> Verdict
-    requires { ⌜ (at ≤ total) × (4 ≤ total - at) × (min 24 (total - at) ≤ length (now window)) ⌝ }
+    requires { ⌜ Shows (now window) at total 4 ⌝ }
     ensures { λ r. ⌜ r ≡ verdict (dataRows (now (window .entry)) at (total - at) total rate) ⌝ }
 {
     if rate == 0 {
@@ -142,7 +143,7 @@ pub fn data(window: &[u8], at: usize, rate: u32, total: usize) -> Verdict
 
 // The verdict on any other chunk.
 pub fn other(window: &[u8], at: usize, total: usize) -> Verdict
-    requires { ⌜ (at ≤ total) × (4 ≤ total - at) × (min 24 (total - at) ≤ length (now window)) ⌝ }
+    requires { ⌜ Shows (now window) at total 4 ⌝ }
     ensures { λ r. ⌜ r ≡ verdict (otherRows (now (window .entry)) at (total - at) total) ⌝ }
 {
     let left = total - at;

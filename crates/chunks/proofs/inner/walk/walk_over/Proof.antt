@@ -1,5 +1,5 @@
 -- `walk_over` steps over the chunks of a file; the walk that is left leads to the same end. Assumes nothing.
-use Rattle.sequences.proofs.Basics.{_≡_, sym, ap, _∙_, subst, ℕ, _<_, arith, List, length, drop}
+use Rattle.sequences.proofs.Basics.{zero-le, _≡_, sym, ap, _∙_, subst, ℕ, _<_, arith, List, length, drop}
 use Rattle.sequences.proofs.Pasted.{take-rest, tail-length}
 use Rattle.chunks.specs.Chunks.{stepped, walked, walkOf}
 use Rattle.chunks.specs.declared.inner.walk.Walk.{Walk}
@@ -27,7 +27,7 @@ loop-holds c =
 step-requires : fn.Tie.Need-step-requires Inv-loop μ-loop
 step-requires c κs =
     let i = c .before in let l = i .before in let file = l .before .before .before .args .file .now in
-    (l .loop .inv .0 (i .loop-test .taken), omega (arith, tail-length (l .loop .w .at) file))
+    (l .loop .inv .0 (i .loop-test .taken), zero-le, omega (arith, tail-length (l .loop .w .at) file))
 
 loop-less : fn.Tie.Need-loop-less Inv-loop μ-loop
 loop-less c =
