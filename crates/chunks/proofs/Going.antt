@@ -1,5 +1,5 @@
 -- Where a walk goes after a verdict. Assumes nothing.
-use Rattle.sequences.proofs.Basics.{_≡_, refl, sym, ap, _∙_}
+use Rattle.sequences.proofs.Basics.{_≡_, refl, sym, ap, _∙_, ℕ, arith}
 use Rattle.refusal.specs.declared.Refusal.{Refusal}
 use Rattle.refusal.specs.declared.Verdict.{Verdict}
 use Rattle.refusal.specs.declared.Verdict.the-variants.{Accepted, Refused}
@@ -17,6 +17,10 @@ on-refused v u why next r e a f = f ∙ ap (λ (x : Verdict). going x next) (sym
 -- the end at a refusal
 abbrev pub ends : Refusal → Walk
 ends why = going (Refused why) (chunkAt 0 0)
+
+-- which is not accepted
+pub refused-not : {why : Refusal} → Refused why ≡ Accepted → ⊥
+refused-not e = let z : _≡_ {A = ℕ} 0 1 = cc in absurd (omega arith)
 
 -- whatever holds after both verdicts holds
 pub going-cases : (P : Walk → Type 0) (v : Verdict) (next : Walk) → (v ≡ Accepted → P next) → ((why : Refusal) → v ≡ Refused why → P (ends why))

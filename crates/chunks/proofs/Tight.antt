@@ -1,5 +1,5 @@
 -- A file of 44 bytes and its samples holds a format and the samples, and nothing else. Assumes nothing.
-use Rattle.sequences.proofs.Basics.{_≡_, refl, sym, ap, _∙_, subst, ℕ, zero, suc, _+_, _-_, _*_, _/_, _≤_, _<_, arith, Bool, true, false, true≢false, cond}
+use Rattle.sequences.proofs.Basics.{_≡_, refl, ap, _∙_, subst, ℕ, zero, suc, _+_, _-_, _*_, _/_, _≤_, _<_, arith, Bool, true, false, true≢false, cond}
 use Rattle.sequences.proofs.Basics.{List, length, drop, eqb, eq-eqb, ne-eqb, le-refl, lit≤}
 use Rattle.refusal.specs.Refusal.{verdict}
 use Rattle.refusal.specs.declared.Refusal.{Refusal}
@@ -12,7 +12,7 @@ use Rattle.chunks.specs.Chunks.{chunkAt, samplesFrom, going, begun, atDa
 use Rattle.chunks.specs.declared.inner.walk.Walk.{Walk}
 use Rattle.fields.proofs.Told.{head-told, format-told, data-told}
 use Rattle.chunks.proofs.Going.{ends, going-cases}
-use Rattle.chunks.proofs.Walks.{step-cases, walked-ended, walked-on, walk-ends, walk-inside}
+use Rattle.chunks.proofs.Walks.{step-cases, walked-ended, ended-not, walked-on, walk-ends, walk-inside}
 
 -- at least 8 bytes
 eight : (b : Bool) → 8 ≤ cond b 32 8
@@ -29,9 +29,7 @@ module _ (see : ℕ → List ℕ) (L : ℕ) where
   Far at rate r = r .more ≡ false → r .verdict ≡ Accepted → least at rate ≤ r .at
 
   far-ended : (k at rate : ℕ) (why : Refusal) → Far at rate (walked k see L (ends why))
-  far-ended k at rate why m a =
-      let e = sym (ap (λ (x : Walk). x .verdict) (walked-ended see L k (ends why) refl)) ∙ a in
-      let z : _≡_ {A = ℕ} 0 1 = cc in absurd (omega arith)
+  far-ended k at rate why m a = absurd (ended-not see L k why a)
 
   far-later : (at on rate : ℕ) (r : Walk) → at ≤ on → Far on rate r → Far at rate r
   far-later at on rate r h f m a = omega (arith, h, f m a)
@@ -87,11 +85,6 @@ module _ (file : List ℕ) where
   abbrev Ends : Walk → Type 0
   Ends r = (r .more ≡ false) × (r .verdict ≡ Accepted) × (r .at ≤ 44)
 
-  ends-not : (k : ℕ) (why : Refusal) → Ends (walked k rest L (ends why)) → ⊥
-  ends-not k why e =
-      let f = sym (ap (λ (x : Walk). x .verdict) (walked-ended rest L k (ends why) refl)) ∙ e .1 in
-      let z : _≡_ {A = ℕ} 0 1 = cc in absurd (omega arith)
-
   -- at place 36, after a format, the samples follow
   abbrev Second : (k rate : ℕ) → Walk → Type 0
   Second k rate n = Ends (walked k rest L n) → (numberAt 4 (rest 36) 0 ≡ mark "data") × (verdict (dataRows (rest 36) 36 (L - 36) L rate) ≡ Accepted)
@@ -100,13 +93,13 @@ module _ (file : List ℕ) where
   second : (k rate : ℕ) → 0 < rate → Second k rate (stepped (rest 36) 36 rate L)
   unfolding atData atFormat atOther
   second k rate some =
-      step-cases (Second k rate) (rest 36) 36 rate L (λ h e. absurd (ends-not k (Wav L) e))
+      step-cases (Second k rate) (rest 36) 36 rate L (λ h e. absurd (ended-not rest L k (Wav L) (e .1)))
       (λ h d. going-cases (Second k rate) (verdict (dataRows (rest 36) 36 (L - 36) L rate)) (samplesFrom 44 rate (numberAt 4 (rest 36) 4 / 2))
-      (λ a e. (d, a, walked-ended rest L k (samplesFrom 44 rate (numberAt 4 (rest 36) 4 / 2)) refl)) (λ why a e. absurd (ends-not k why e)))
+      (λ a e. (d, a, walked-ended rest L k (samplesFrom 44 rate (numberAt 4 (rest 36) 4 / 2)) refl)) (λ why a e. absurd (ended-not rest L k why (e .1))))
       (λ h f z. absurd (omega (arith, some, z)))
       (λ h. going-cases (Second k rate) (verdict (otherRows (rest 36) 36 (L - 36) L)) (chunkAt (44 + padded (numberAt 4 (rest 36) 4)) rate)
       (λ a e. absurd (omega (arith, e .2, eight (eqb rate 0), walked-far rest L k (44 + padded (numberAt 4 (rest 36) 4)) rate (e .0) (e .1))))
-      (λ why a e. absurd (ends-not k why e)))
+      (λ why a e. absurd (ended-not rest L k why (e .1))))
 
   -- at place 12 a format stands, and then the samples
   abbrev First : (k : ℕ) → Walk → Type 0
@@ -117,19 +110,19 @@ module _ (file : List ℕ) where
   first : (k : ℕ) → First k (stepped (rest 12) 12 0 L)
   unfolding atData atFormat atOther walked
   first k =
-      step-cases (First k) (rest 12) 12 0 L (λ h e. absurd (ends-not (suc k) (Wav L) e))
+      step-cases (First k) (rest 12) 12 0 L (λ h e. absurd (ended-not rest L (suc k) (Wav L) (e .1)))
       (λ h d. going-cases (First k) (verdict (dataRows (rest 12) 12 (L - 12) L 0)) (samplesFrom 20 0 (numberAt 4 (rest 12) 4 / 2))
-      (λ a e. absurd (data-told (rest 12) 12 L _ 0 refl a .3 refl)) (λ why a e. absurd (ends-not (suc k) why e)))
+      (λ a e. absurd (data-told (rest 12) 12 L _ 0 refl a .3 refl)) (λ why a e. absurd (ended-not rest L (suc k) why (e .1))))
       (λ h f z. going-cases (First k) (verdict (formatRows (rest 12) 12 (L - 12) L)) (chunkAt 36 (numberAt 4 (rest 12) 12))
       (λ a e. let s = second k (numberAt 4 (rest 12) 12) (format-told (rest 12) 12 L _ refl a .1) e in (f, a, s .0, s .1, s .2))
-      (λ why a e. absurd (ends-not (suc k) why e)))
+      (λ why a e. absurd (ended-not rest L (suc k) why (e .1))))
       (λ h. going-cases (First k) (verdict (otherRows (rest 12) 12 (L - 12) L)) (chunkAt (20 + padded (numberAt 4 (rest 12) 4)) 0)
       (λ a e. absurd (omega (arith, e .2, walked-far rest L (suc k) (20 + padded (numberAt 4 (rest 12) 4)) 0 (e .0) (e .1))))
-      (λ why a e. absurd (ends-not (suc k) why e)))
+      (λ why a e. absurd (ended-not rest L (suc k) why (e .1))))
 
   begin : (v : Verdict) → verdict (headRows file 0 L L) ≡ v → Ends (walked L rest L (going v (chunkAt 12 0)))
       → walkOf file ≡ walked L rest L (going v (chunkAt 12 0)) → Tight file
-  begin (Refused why) h e w = absurd (ends-not L why e)
+  begin (Refused why) h e w = absurd (ended-not rest L L why (e .1))
   begin Accepted h e w =
       let k = L - 2 in
       let more : L ≡ suc (suc k) = omega (arith, head-told file L h) in

@@ -10,7 +10,7 @@ use Rattle.fields.specs.Fields.{mark, padded, headRows, dataRows, formatRows, o
 use Rattle.chunks.specs.Chunks.{chunkAt, samplesFrom, begun, atData, atFormat, atOther, stepped, onBy, walked, walkIn, walkOf}
 use Rattle.chunks.specs.declared.inner.walk.Walk.{Walk}
 use Rattle.fields.proofs.Told.{head-told, format-told, data-told, other-told}
-use Rattle.chunks.proofs.Going.{ends, going-cases}
+use Rattle.chunks.proofs.Going.{ends, refused-not, going-cases}
 use Rattle.chunks.proofs.Steps.{step-short, step-data, step-format, step-other, step-second}
 
 -- whatever holds for each kind of chunk holds
@@ -74,7 +74,11 @@ module _ (see : ℕ → List ℕ) (L : ℕ) where
   walked-ended zero w e = refl
   walked-ended (suc k) w e = ap (λ (b : Bool). walked k see L (onBy b see L w)) e ∙ walked-ended k w e
 
-  -- one that has not makes a step
+  -- and one that has ended at a refusal is not accepted
+  pub ended-not : (k : ℕ) (why : Refusal) → walked k see L (ends why) .verdict ≡ Accepted → ⊥
+  ended-not k why a = refused-not (sym (ap (λ (x : Walk). x .verdict) (walked-ended k (ends why) refl)) ∙ a)
+
+  -- one that has not ended makes a step
   pub walked-on : (k : ℕ) (w : Walk) → w .more ≡ true → walked (suc k) see L w ≡ walked k see L (next w)
   unfolding walked
   walked-on k w e = ap (λ (b : Bool). walked k see L (onBy b see L w)) e
@@ -144,7 +148,7 @@ abbrev pub Inside : (L : ℕ) → Walk → Type 0
 Inside L r = r .verdict ≡ Accepted → r .at + 2 * r .samples ≤ L
 
 refused-inside : (L : ℕ) (why : Refusal) → Inside L (ends why)
-refused-inside L why e = let z : _≡_ {A = ℕ} 0 1 = cc in absurd (omega arith)
+refused-inside L why e = absurd (refused-not e)
 
 step-inside : (w : List ℕ) (at rate L : ℕ) → Inside L (stepped w at rate L)
 unfolding atData atFormat atOther

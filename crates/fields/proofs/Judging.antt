@@ -8,13 +8,6 @@ told-equal a b r e f = eq-eqb a b (rw e at f)
 pub told-apart : (a b r : ℕ) → r ≡ a → (r ≡ b → ⊥) → eqb a b ≡ false
 told-apart a b r e f = ne-eqb a b (rw e at f)
 
--- with 8 added
-pub more-equal : (a b r : ℕ) → r ≡ a → r + 8 ≡ b → eqb (a + 8) b ≡ true
-more-equal a b r e f = eq-eqb (a + 8) b (rw e at f)
-
-pub more-apart : (a b r : ℕ) → r ≡ a → (r + 8 ≡ b → ⊥) → eqb (a + 8) b ≡ false
-more-apart a b r e f = ne-eqb (a + 8) b (rw e at f)
-
 -- it is even, or odd
 pub told-even : (a r : ℕ) → r ≡ a → r % 2 ≡ 0 → eqb (a % 2) 0 ≡ true
 told-even a r e f = eq-eqb (a % 2) 0 (rw e at f)
@@ -45,8 +38,6 @@ told-not-twice a b r s e f g = ne-eqb a (2 * b) (rw (e, f) at g)
 pub ruleset judging = (
   told-equal,
   told-apart,
-  more-equal,
-  more-apart,
   told-even,
   told-odd,
   told-above,

@@ -1,5 +1,5 @@
 -- What an accepted verdict tells of the fields, and when one is given. Assumes nothing.
-use Rattle.sequences.proofs.Basics.{_≡_, sym, _∙_, ℕ, _+_, _-_, _*_, _%_, _≤_, _<_, arith, List}
+use Rattle.sequences.proofs.Basics.{_≡_, sym, _∙_, ℕ, _-_, _*_, _%_, _≤_, _<_, arith, List}
 use Rattle.refusal.specs.Refusal.{verdict}
 use Rattle.refusal.specs.declared.Refusal.{Refusal}
 use Rattle.refusal.specs.declared.Verdict.{Verdict}
@@ -57,10 +57,10 @@ module _ (w : List ℕ) (at L : ℕ) (v : Verdict) where
 
 module _ (w : List ℕ) (at L : ℕ) where
   pub head-fields : verdict (headRows w at L L) ≡ Accepted
-      → (numberAt 4 w 0 ≡ mark "RIFF") × (numberAt 4 w 4 + 8 ≡ L) × (numberAt 4 w 8 ≡ mark "WAVE")
+      → (numberAt 4 w 0 ≡ mark "RIFF") × (numberAt 4 w 4 ≡ L - 8) × (numberAt 4 w 8 ≡ mark "WAVE")
   head-fields t = (search accepted depth 20, search accepted depth 20, search accepted depth 20)
 
-  pub head-accepted : 12 ≤ L → numberAt 4 w 0 ≡ mark "RIFF" → numberAt 4 w 4 + 8 ≡ L → numberAt 4 w 8 ≡ mark "WAVE" → verdict (headRows w at L L) ≡ Accepted
+  pub head-accepted : 12 ≤ L → numberAt 4 w 0 ≡ mark "RIFF" → numberAt 4 w 4 ≡ L - 8 → numberAt 4 w 8 ≡ mark "WAVE" → verdict (headRows w at L L) ≡ Accepted
   head-accepted h e f g =
       let four : 4 ≤ L = omega (arith, h) in let eight : 8 ≤ L = omega (arith, h) in
       let it : Accepted ≡ verdict (headRows w at L L) = search deciding depth 20 in

@@ -32,7 +32,7 @@ module _ (w : List ℕ) (at left L : ℕ) where
 
   -- the file's own mark: its size is its length less 8
   abbrev pub headRows : List Row
-  headRows = field 0 4 (isNot (numberAt 4 w 0) (mark "RIFF")) ++ field 4 4 (isNot (numberAt 4 w 4 + 8) L) ++ field 8 4 (isNot (numberAt 4 w 8) (mark "WAVE"))
+  headRows = field 0 4 (isNot (numberAt 4 w 0) (mark "RIFF")) ++ field 4 4 (isNot (numberAt 4 w 4) (L - 8)) ++ field 8 4 (isNot (numberAt 4 w 8) (mark "WAVE"))
 
   -- a format: 16 bytes, PCM, one channel
   abbrev pub kindRows : List Row

@@ -10,6 +10,7 @@ use Rattle.refusal.proofs.Rows.{deciding, accepted}
 use Rattle.pcm.specs.Samples.{samplesAt, firstUnfit}
 use Rattle.chunks.specs.Chunks.{walkOf}
 use Rattle.chunks.specs.declared.inner.walk.Walk.{Walk}
+use Rattle.chunks.proofs.Going.{refused-not}
 use Rattle.chunks.proofs.Walks.{walk-inside}
 use Rattle.wav.specs.Header.{mostSamples}
 use Rattle.wav.specs.Wav.{none, told, Measures, withRoom, readVerdict, Reads, writeVerdict}
@@ -97,7 +98,7 @@ read-told file room = go (walkOf file .verdict)
   where
     go : (v : Verdict) → withRoom v room (walkOf file .samples) ≡ Accepted → (v ≡ Accepted) × (room ≡ walkOf file .samples)
     go Accepted t = let same : _≡_ {A = Verdict} Accepted Accepted = refl in (same, search accepted depth 10)
-    go (Refused why) t = let z : _≡_ {A = ℕ} 0 1 = cc in absurd (omega arith)
+    go (Refused why) t = absurd (refused-not t)
 
 pub read-accepted : (file : List ℕ) (room : ℕ) → walkOf file .verdict ≡ Accepted → room ≡ walkOf file .samples → readVerdict file room ≡ Accepted
 unfolding readVerdict

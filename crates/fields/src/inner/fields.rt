@@ -32,7 +32,7 @@ pub fn head(window: &[u8], total: usize) -> Verdict
     if total < 8 {
         return Verdict::Refused(Refusal::Wav(total));
     }
-    if four(window, 4) + 8 != total {
+    if four(window, 4) != total - 8 {
         return Verdict::Refused(Refusal::Wav(4));
     }
     if total < 12 {

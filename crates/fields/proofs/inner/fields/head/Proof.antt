@@ -1,5 +1,5 @@
 -- `head` goes down the rows of a file's mark. Assumes nothing.
-use Rattle.sequences.proofs.Basics.{arith, needs}
+use Rattle.sequences.proofs.Basics.{needs}
 use Rattle.refusal.proofs.Rows.{deciding}
 use Rattle.little.specs.Numbers.{numberAt}
 use Rattle.fields.proofs.Judging.{judging}
@@ -9,6 +9,5 @@ pub head-spec : {M : Type 1} → fn.Statement.statement M
 unfolding numberAt
 head-spec = fn.Tie.close
     (fn.Tie.spec (λ c. search (deciding, judging) depth 20) (λ c κs. search needs) (λ c. search (deciding, judging) depth 20)
-    (λ c. search (deciding, judging) depth 20) (λ c κs. search needs) (λ c. omega (arith, c .four2 .ensures .small))
-    (λ c. search (deciding, judging) depth 20) (λ c. search (deciding, judging) depth 20) (λ c κs. search needs) (λ c. search (deciding, judging) depth 20)
-    (λ c. search (deciding, judging) depth 20))
+    (λ c. search (deciding, judging) depth 20) (λ c κs. search needs) (λ c. search (deciding, judging) depth 20) (λ c. search (deciding, judging) depth 20)
+    (λ c κs. search needs) (λ c. search (deciding, judging) depth 20) (λ c. search (deciding, judging) depth 20))
