@@ -1,2 +1,4 @@
 // The walk over the chunks of a recording.
+#![tactic(auto)]
+
 pub mod inner;

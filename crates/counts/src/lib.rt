@@ -1,4 +1,6 @@
 // Counts of a plan: its twiddles, and the buffer with the result of a run.
+#![tactic(auto)]
+
 pub mod inner;
 
 ghost use Rattle.counts.specs.Counts.{NumbersBuffer, CountsStage, CountsEnd, Locates};
@@ -9,21 +11,21 @@ use plan::inner::records::is_planned;
 use refusal::{Refusal, Verdict};
 
 // What a count answers.
-#[derive(Drop)]
+#[derive(Clone, Copy)]
 pub struct Counted {
     pub verdict: Verdict,
     pub count: usize,
 }
 
 // One of the two buffers of a run.
-#[derive(Drop)]
+#[derive(Clone, Copy)]
 pub enum Buffer {
     Data,
     Scratchpad,
 }
 
 // Where the result of a run is.
-#[derive(Drop)]
+#[derive(Clone, Copy)]
 pub struct Located {
     pub verdict: Verdict,
     pub buffer: Buffer,

@@ -1,2 +1,4 @@
 // The fields of a recording's mark and of its chunks.
+#![tactic(auto)]
+
 pub mod inner;

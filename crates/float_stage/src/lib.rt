@@ -1,2 +1,4 @@
 // The work of a float stage.
+#![tactic(auto)]
+
 pub mod inner;

@@ -4,7 +4,7 @@ ghost use Rattle.floats.specs.Complexes.{Adds, Subtracts, Multiplies, Conjugates
 use turn::Turn;
 
 // A real and an imaginary part.
-#[derive(Drop)]
+#[derive(Clone, Copy)]
 pub struct Complex {
     pub re: f32,
     pub im: f32,

@@ -1,1 +1,2 @@
 // What floats do by the fractions that they equal: laws, and no code.
+#![tactic(auto)]

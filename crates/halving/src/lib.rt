@@ -1,2 +1,4 @@
 // The half list of a list of radices.
+#![tactic(auto)]
+
 pub mod inner;

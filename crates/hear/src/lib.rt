@@ -1,4 +1,6 @@
 // Whether the bees fan: the power of a band of a block's spectrum, held against a threshold.
+#![tactic(auto)]
+
 ghost use Rattle.std.specs.Prelude.{◌≡◌};
 ghost use Rattle.hear.specs.Hear.{NumbersDecision, decided, hear_verdict, Hears};
 
@@ -9,14 +11,14 @@ use spectrum::inner::check::lent_samples;
 use transform::inner::directions::forward;
 
 // What a block says of the bees.
-#[derive(Drop)]
+#[derive(Clone, Copy)]
 pub enum Decision {
     Fanning,
     Quiet,
 }
 
 // What a block that is heard answers.
-#[derive(Drop)]
+#[derive(Clone, Copy)]
 pub struct Heard {
     pub verdict: Verdict,
     pub power: f32,

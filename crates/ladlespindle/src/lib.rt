@@ -1,6 +1,8 @@
 // The functions that a host written in C links: the version; planning, its refusals, counts and scaling, on lists of radices; a single turn; the
 // filling of twiddles; a stage in floats; both transforms, the power of bins and whether the bees fan; recordings as WAV files; and the stages in
 // remainders, on a plan and buffers of whole numbers.
+#![tactic(auto)]
+
 ghost use Rattle.std.specs.Prelude.{◌≡◌, get_or};
 ghost use Rattle.ladlespindle.specs.Exports.{GivesVersion, GivesInterface, GivesPlanned, GivesPlan, GivesNumber, GivesPlace, GivesLength, GivesHalf, GivesStages, GivesMerges, GivesRadix, GivesLetter, GivesStageTwiddles, GivesEndTwiddles, GivesResult, GivesAcceptance, GivesScaling};
 ghost use Rattle.refusal.specs.Refusal.{left};
@@ -15,7 +17,7 @@ use turn::inner::words::words_of;
 
 // What planning answers, with the refusal as two numbers.
 #[repr(C)]
-#[derive(Drop)]
+#[derive(Clone, Copy)]
 pub struct Planned {
     pub number: u32,
     pub place: usize,
@@ -24,7 +26,7 @@ pub struct Planned {
 
 // What scaling answers, with the refusal as two numbers.
 #[repr(C)]
-#[derive(Drop)]
+#[derive(Clone, Copy)]
 pub struct Scaling {
     pub number: u32,
     pub place: usize,
@@ -37,7 +39,7 @@ pub struct Scaling {
 
 // Why a call is refused, as two numbers; 0 and 0 for one that is accepted.
 #[repr(C)]
-#[derive(Drop)]
+#[derive(Clone, Copy)]
 pub struct Answer {
     pub number: u32,
     pub place: usize,
@@ -45,7 +47,7 @@ pub struct Answer {
 
 // The same of a single turn, with its two words, +0 on a refusal.
 #[repr(C)]
-#[derive(Drop)]
+#[derive(Clone, Copy)]
 pub struct TurnWords {
     pub number: u32,
     pub place: usize,
@@ -55,7 +57,7 @@ pub struct TurnWords {
 
 // The same of a sum of power, with the sum, +0 on a refusal.
 #[repr(C)]
-#[derive(Drop)]
+#[derive(Clone, Copy)]
 pub struct Summed {
     pub number: u32,
     pub place: usize,
@@ -64,7 +66,7 @@ pub struct Summed {
 
 // The same of a block that is heard, with the power of the band, +0 on a refusal, and the decision: 0 for fanning and on a refusal, 1 for quiet.
 #[repr(C)]
-#[derive(Drop)]
+#[derive(Clone, Copy)]
 pub struct Heard {
     pub number: u32,
     pub place: usize,
@@ -74,7 +76,7 @@ pub struct Heard {
 
 // The same of a recording, with its rate and how many samples it holds, 0 on a refusal.
 #[repr(C)]
-#[derive(Drop)]
+#[derive(Clone, Copy)]
 pub struct Wav {
     pub number: u32,
     pub place: usize,
@@ -84,7 +86,7 @@ pub struct Wav {
 
 // The same of a run, with the buffer that holds the result: 0 for Data and on a refusal, 1 for Scratchpad.
 #[repr(C)]
-#[derive(Drop)]
+#[derive(Clone, Copy)]
 pub struct Ran {
     pub number: u32,
     pub place: usize,

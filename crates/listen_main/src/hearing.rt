@@ -23,7 +23,7 @@ use twiddle::fill_forward;
 
 // How the hearing of blocks is set up: their plan, the rate, the bins of the band, the step of full scale, the threshold, and where progress is told,
 // a negative number for nowhere.
-#[derive(Drop)]
+#[derive(Clone, Copy)]
 struct Setup {
     plan: Record,
     rate: usize,
@@ -38,7 +38,7 @@ struct Setup {
 
 // How far the hearing is: blocks heard and those that fan, samples still to come, the bytes of a last block that is short, whether there may be
 // more, and whether all went well.
-#[derive(Drop)]
+#[derive(Clone, Copy)]
 struct Course {
     blocks: usize,
     fanning: usize,

@@ -5,6 +5,8 @@
 //     --threshold DB   the level of the band from which a block is fanning, in decibels against a tone of full scale; -30.1, a tone of 1/32
 //     --raw RATE       bare samples of 16 bits, lowest byte first, so many a second, in place of a WAV file
 //     --plot           draws the mean spectrum behind the last line
+#![tactic(auto)]
+
 mod drawing;
 mod hearing;
 

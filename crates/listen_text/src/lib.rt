@@ -1,2 +1,4 @@
 // The lines that the listen program prints.
+#![tactic(auto)]
+
 pub mod inner;

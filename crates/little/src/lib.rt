@@ -1,2 +1,4 @@
 // Numbers of two and of four bytes, the lowest first.
+#![tactic(auto)]
+
 pub mod inner;

@@ -1,4 +1,6 @@
 // Planning: from a list of radices to the plan record.
+#![tactic(auto)]
+
 pub mod inner;
 
 ghost use Rattle.std.specs.Prelude.{◌≡◌};
@@ -14,7 +16,7 @@ use refusal::{Refusal, Verdict};
 
 // A plan: the length, its half, and the radices of the stages in ascending order, unused entries 0.
 #[repr(C)]
-#[derive(Drop)]
+#[derive(Clone, Copy)]
 pub struct Record {
     pub n: usize,
     pub half: usize,
@@ -23,7 +25,7 @@ pub struct Record {
 }
 
 // What planning answers.
-#[derive(Drop)]
+#[derive(Clone, Copy)]
 pub struct Planned {
     pub verdict: Verdict,
     pub plan: Record,

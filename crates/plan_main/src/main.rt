@@ -1,5 +1,7 @@
 // The plan program: reads a list of radices and prints its plan, or the refusal.
 // The first 4,096 bytes of standard input count. Radices are parted by blanks and line ends: echo 3 2 2 | ./ladlespindle plan
+#![tactic(auto)]
+
 ghost use Rattle.std.specs.Prelude.{◌≡◌, length};
 
 use libc::{STDERR_FILENO, STDIN_FILENO, STDOUT_FILENO};

@@ -1,4 +1,6 @@
 // The text that the plan program prints for the bytes that it read.
+#![tactic(auto)]
+
 pub mod inner;
 
 ghost use Rattle.plan_text.specs.Report.{Reports};

@@ -1,4 +1,6 @@
 // The power of bins of a spectrum.
+#![tactic(auto)]
+
 pub mod inner;
 
 ghost use Rattle.power.specs.Power.{Powers};
@@ -8,7 +10,7 @@ use inner::sum::sum;
 use refusal::Verdict;
 
 // What a sum of power answers.
-#[derive(Drop)]
+#[derive(Clone, Copy)]
 pub struct Summed {
     pub verdict: Verdict,
     pub power: f32,

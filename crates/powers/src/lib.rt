@@ -1,2 +1,4 @@
 // Powers in remainders.
+#![tactic(auto)]
+
 pub mod inner;

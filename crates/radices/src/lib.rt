@@ -1,9 +1,11 @@
 // Lists of radices.
+#![tactic(auto)]
+
 pub mod inner;
 
 // A list of radices, unused entries 0.
 #[repr(C)]
-#[derive(Drop)]
+#[derive(Clone, Copy)]
 pub struct Radices {
     pub count: usize,
     pub entries: [u8; 13],

@@ -1,8 +1,10 @@
 // The table of refusals: a case for each row, its number and its place, and the verdict of a call.
+#![tactic(auto)]
+
 ghost use Rattle.refusal.specs.Refusal.{Numbers, Places, NumbersIn, PlacesIn};
 
 // Why a call is refused. A case holds its place where the table names one.
-#[derive(Drop)]
+#[derive(Clone, Copy)]
 pub enum Refusal {
     // 1: the list is empty.
     Empty,
@@ -39,7 +41,7 @@ pub enum Refusal {
 }
 
 // What a call answers of its arguments.
-#[derive(Drop)]
+#[derive(Clone, Copy)]
 pub enum Verdict {
     Accepted,
     Refused(Refusal),

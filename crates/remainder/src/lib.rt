@@ -1,4 +1,6 @@
 // The stages in remainders modulo m, where w turns by one of h parts of a circle.
+#![tactic(auto)]
+
 pub mod inner;
 
 ghost use Rattle.remainder.specs.Calls.{Stages, Runs};

@@ -1,6 +1,8 @@
 // Replays what inner functions alone show: puts each record's question to the library and counts the answers that differ.
 // The records are in the files `planning`, `layouts`, `places`, `ends` and `inverse`, or in the five files that the arguments
 // name; oracle/src/text.rs says what stands in a record, and tests/replay.c replays what public calls show.
+#![tactic(auto)]
+
 mod spectra;
 
 ghost use Rattle.std.specs.Prelude.{◌+◌, ◌≤◌, ◌<◌};
@@ -11,7 +13,7 @@ use recorded::inner::{places, plans};
 
 // Which answers a file records: half lists, where twiddles stand, by a checksum and place by place, the steps at the ends
 // alone, and inverse transforms by the unguarded core.
-#[derive(Drop)]
+#[derive(Clone, Copy)]
 enum Kind {
     Halves,
     Layouts,
@@ -21,7 +23,7 @@ enum Kind {
 }
 
 // How many bytes the line has that a record starts with, and how many answers the record has.
-#[derive(Drop)]
+#[derive(Clone, Copy)]
 struct Shape {
     size: usize,
     answers: u64,
@@ -29,7 +31,7 @@ struct Shape {
 
 // How many answers of a file were compared and how many of them differ, whether there may be more records, and whether the
 // file ended after one.
-#[derive(Drop)]
+#[derive(Clone, Copy)]
 struct Tally {
     answers: u64,
     differ: u64,

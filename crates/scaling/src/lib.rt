@@ -1,4 +1,6 @@
 // Scaling of two base lists.
+#![tactic(auto)]
+
 pub mod inner;
 
 ghost use Rattle.scaling.specs.Scaling.{Scales};
@@ -8,7 +10,7 @@ use radices::Radices;
 use refusal::Verdict;
 
 // What scaling answers: the power of two, both scaled products and both scaled lists.
-#[derive(Drop)]
+#[derive(Clone, Copy)]
 pub struct Scaled {
     pub verdict: Verdict,
     pub p: usize,

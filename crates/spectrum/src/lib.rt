@@ -1,4 +1,6 @@
 // Spectra of real samples: forward and inverse.
+#![tactic(auto)]
+
 pub mod inner;
 
 ghost use Rattle.spectrum.specs.Calls.{Forwards, Inverts};

@@ -1,4 +1,6 @@
 // The float stages of a plan, one by a checked call and all by a driver, equal to the schedule operation by operation.
+#![tactic(auto)]
+
 pub mod inner;
 
 ghost use Rattle.stage.specs.Calls.{Stages};

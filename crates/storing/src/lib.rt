@@ -1,2 +1,4 @@
 // Outputs of iterations in lanes on their way to their cells.
+#![tactic(auto)]
+
 pub mod inner;

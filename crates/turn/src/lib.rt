@@ -1,4 +1,6 @@
 // A turn, (cos, -sin) of t/L of a circle, from the house table.
+#![tactic(auto)]
+
 pub mod inner;
 
 ghost use Rattle.turn.specs.Calls.{Turns};
@@ -8,7 +10,7 @@ use inner::lookup::{is_housed, looked};
 use refusal::{Refusal, Verdict};
 
 // Whole quarters of a circle carry no numbers, any other turn its two.
-#[derive(Drop)]
+#[derive(Clone, Copy)]
 pub enum Turn {
     Zero,
     Quarter,
@@ -18,7 +20,7 @@ pub enum Turn {
 }
 
 // A turn, or the refusal of it with two numbers beside it that are 0.
-#[derive(Drop)]
+#[derive(Clone, Copy)]
 pub struct Turned {
     pub verdict: Verdict,
     pub turn: Turn,

@@ -1,4 +1,6 @@
 // Twiddles filled from the house table: those of the stages, packed for a width, and those of the ends.
+#![tactic(auto)]
+
 pub mod inner;
 
 ghost use Rattle.end_twiddles.specs.declared.inner.ends.Direction.TheVariants.{Forward, Inverse};

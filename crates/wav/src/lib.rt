@@ -1,4 +1,6 @@
 // Recordings as WAV files: how many samples a file holds, those samples, and a file of samples.
+#![tactic(auto)]
+
 pub mod inner;
 
 ghost use Rattle.std.specs.Prelude.{◌≡◌};
@@ -11,7 +13,7 @@ use pcm::inner::samples::{first_unfit, read_samples, write_samples};
 use refusal::{Refusal, Verdict};
 
 // What a file that is read answers: the rate and how many samples, 0 on a refusal.
-#[derive(Drop)]
+#[derive(Clone, Copy)]
 pub struct Wav {
     pub verdict: Verdict,
     pub rate: u32,

@@ -15,7 +15,7 @@ const DATA: usize = 1635017060;
 
 // Where a walk over a file's chunks stands. With more to walk a chunk begins at `at`, and the rate is 0 before the first format; else, where the
 // verdict accepts, the samples begin there.
-#[derive(Drop)]
+#[derive(Clone, Copy)]
 pub struct Walk {
     pub more: bool,
     pub verdict: Verdict,

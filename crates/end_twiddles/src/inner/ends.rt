@@ -10,7 +10,7 @@ use turn::inner::lookup::at;
 use turn::inner::words::{Words, words_of};
 
 // The direction of a transform.
-#[derive(Drop)]
+#[derive(Clone, Copy)]
 pub enum Direction {
     Forward,
     Inverse,

@@ -11,7 +11,7 @@ ghost use Rattle.float_stage.specs.declared.inner.lent.Layout.TheVariants.{Besid
 use floats::inner::cells::{get, put};
 
 // How the twiddles of iterations that are in no whole lanes of 4 stand: one iteration after the other, or apart, to be fetched.
-#[derive(Drop)]
+#[derive(Clone, Copy)]
 pub enum Layout {
     Beside,
     Apart,

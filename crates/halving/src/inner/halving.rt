@@ -8,7 +8,7 @@ use radices::Radices;
 use radices::inner::lists::{copied, index_of};
 
 // What halving does to a list: an entry goes, or becomes another radix.
-#[derive(Drop)]
+#[derive(Clone, Copy)]
 pub enum Halving {
     Goes(usize),
     Becomes(usize, u8),

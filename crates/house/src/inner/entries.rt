@@ -3,7 +3,7 @@ ghost use Rattle.std.specs.Prelude.{◌≡◌, ◌<◌};
 ghost use Rattle.house.specs.Entries.{House, entry_of};
 
 // A quarter number, and the cosine and sine of the rest times 2^60, unrounded.
-#[derive(Drop)]
+#[derive(Clone, Copy)]
 pub struct Entry {
     pub quarter: usize,
     pub cosine: u64,

@@ -8,7 +8,7 @@ use listen_words::Number;
 use listen_words::inner::words::{is_same, level_of, number_of};
 
 // What is to be heard, and how.
-#[derive(Drop)]
+#[derive(Clone, Copy)]
 pub struct Options {
     // which word names the file, 0 for none yet
     pub file: usize,

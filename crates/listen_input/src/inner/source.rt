@@ -8,7 +8,7 @@ use refusal::Verdict;
 
 // Where the samples begin: their rate, 0 where there are none to hear and it has been told why; how many there are; how many bytes have been
 // read, and how many there are in all, 0 where nothing says so.
-#[derive(Drop)]
+#[derive(Clone, Copy)]
 pub struct Start {
     pub rate: usize,
     pub samples: usize,
@@ -17,7 +17,7 @@ pub struct Start {
 }
 
 // How many bytes a read brought, whether that is all that was asked for, and whether it failed.
-#[derive(Drop)]
+#[derive(Clone, Copy)]
 pub struct Got {
     pub count: usize,
     pub whole: bool,

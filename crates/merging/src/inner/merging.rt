@@ -7,7 +7,7 @@ use crate::Merges;
 use radices::inner::lists::{count_of, filled};
 
 // How many of each radix there are.
-#[derive(Drop)]
+#[derive(Clone, Copy)]
 pub struct Tally {
     pub twos: usize,
     pub threes: usize,
@@ -18,7 +18,7 @@ pub struct Tally {
 }
 
 // The rules of merging, in the order in which they are tried.
-#[derive(Drop)]
+#[derive(Clone, Copy)]
 pub enum Rule {
     A,
     B,
@@ -28,7 +28,7 @@ pub enum Rule {
 }
 
 // What is left when no rule applies, and the rules that were applied.
-#[derive(Drop)]
+#[derive(Clone, Copy)]
 pub struct Merged {
     pub tally: Tally,
     pub merges: Merges,

@@ -13,7 +13,7 @@ use turn::inner::lookup::at;
 use turn::inner::words::words_of;
 
 // The column of an iteration, and where its twiddles stand: the first of them, and how many places apart.
-#[derive(Drop)]
+#[derive(Clone, Copy)]
 pub struct Lane {
     pub column: usize,
     pub first: usize,

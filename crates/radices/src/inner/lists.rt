@@ -53,7 +53,7 @@ pub fn index_of(list: &[u8], v: u8) -> usize
 }
 
 // How far the running product stays within the largest length, and the product up to there.
-#[derive(Drop)]
+#[derive(Clone, Copy)]
 pub struct Running {
     pub at: usize,
     pub product: usize,

@@ -15,7 +15,7 @@ const NOWHERE: usize = 99999;
 const MANY: usize = 40000;
 
 // A twiddle: its stage, how many twiddles stand before the stage's, the stage's iterations and radix, its own iteration and number.
-#[derive(Drop)]
+#[derive(Clone, Copy)]
 struct Twiddle {
     stage: usize,
     start: usize,

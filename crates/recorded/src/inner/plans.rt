@@ -8,7 +8,7 @@ use radices::Radices;
 
 // What a list asks: its plan, and how many twiddles the stages and the ends of the plan have, all 0
 // for a list that is refused.
-#[derive(Drop)]
+#[derive(Clone, Copy)]
 pub struct Question {
     pub plan: Record,
     pub stages: usize,

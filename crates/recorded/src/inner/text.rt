@@ -3,7 +3,7 @@ ghost use Rattle.std.specs.Prelude.{◌≤◌};
 ghost use Rattle.io.specs.Counts.{IsPrefixLen};
 
 // A lent list: how many bytes it has, and the bytes.
-#[derive(Drop)]
+#[derive(Clone, Copy)]
 pub struct List {
     pub count: usize,
     pub bytes: [u8; 16],

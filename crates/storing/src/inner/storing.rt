@@ -95,7 +95,7 @@ pub fn batch(even: usize, a: usize, b: usize) -> usize
 }
 
 // Where the first output of an iteration goes: the start of its block, and its column there.
-#[derive(Drop)]
+#[derive(Clone, Copy)]
 pub struct Place {
     pub block: usize,
     pub col: usize,
@@ -127,7 +127,7 @@ fn pick<'a>(a: &'a [f32], b: &'a [f32], r: usize) -> &'a [f32]
 }
 
 // How far the outputs of iterations in lanes are stored: the place of the next, and its lane.
-#[derive(Drop)]
+#[derive(Clone, Copy)]
 pub struct Next {
     pub at: Place,
     pub j: usize,

@@ -4,7 +4,7 @@ ghost use Rattle.tokens.specs.Tokens.{is_blank, digit_value};
 ghost use Rattle.tokens.specs.Reading.{grown, room, pushed, ended_token, stepped, ReadsRadices};
 
 // How much of a token was read: nothing, one byte, or more.
-#[derive(Drop)]
+#[derive(Clone, Copy)]
 pub enum Token {
     Nothing,
     One(u8),
@@ -12,7 +12,7 @@ pub enum Token {
 }
 
 // The radices of the tokens that have ended, and the token that has not.
-#[derive(Drop)]
+#[derive(Clone, Copy)]
 pub struct Reading {
     pub list: [u8; 2048],
     pub count: usize,

@@ -5,7 +5,7 @@ ghost use Rattle.turn.specs.Turns.{words_of};
 use crate::Turn;
 
 // Cosine and negated sine, as f32.
-#[derive(Drop)]
+#[derive(Clone, Copy)]
 pub struct Words {
     pub re: f32,
     pub im: f32,
