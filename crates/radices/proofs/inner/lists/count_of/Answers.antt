@@ -1,20 +1,17 @@
-use Rattle.std.proofs.Common.{rules, ◌≡◌, ◌+◌, ◌≤◌, length, replicate, ℕ, ◌-◌, ◌*◌, ◌<◌, ◌/◌, ◌%◌, Bool, true, false, nat_eq, nat_lt, List, [], ◌∷◌, ◌++◌, slice_index_or, slice_set, bit_and, bit_or, Fits, w8, w32, w64, Bor, MutBor}
-use Rattle.std.proofs.Math.Seq.{paste}
-use Rattle.radices.specs.Lists.{is_radix, first_bad, index_of, count_of, running_product}
+-- `radices::inner::lists::count_of` meets its contract. Assumes nothing.
+use Rattle.sequences.proofs.Basics.{◌≡◌, ◌+◌, ◌-◌, ◌≤◌, ⊎_elim, length, drop, rules}
+use Rattle.radices.specs.Lists.{count_of}
+use Rattle.radices.proofs.Lists.{count_hit, count_miss, count_end}
 use Rattle.radices.proofs.inner.lists.count_of.Goals as goal
+use Rattle.radices.proofs.inner.lists.count_of.Goals.{then-list-i, else-list-i}
 
--- src/inner/lists.rt:85:5
-pub loop-i-init : goal.loop-i-init
-loop-i-init c = ?
-
--- src/inner/lists.rt:87:13
-pub overflow_add-n : goal.overflow_add-n
-overflow_add-n c = ?
-
--- src/inner/lists.rt:85:5
 pub loop-i-preserved : goal.loop-i-preserved
-loop-i-preserved c = ?
+loop-i-preserved c =
+    let l = c.loop-i in let a = c.args in
+    elim c.if-list-i.branch [
+      | then-list-i w ↦ (search rules, (search rules, rw w.n-is (count_hit a.v a.list.now l.n l.i (search rules) w.if-list-i.true l.invariant.1.1)))
+      | else-list-i w ↦ (search rules, (search rules, rw w.n-is (count_miss a.v a.list.now l.n l.i (search rules) w.if-list-i.false l.invariant.1.1)))
+    ]
 
--- src/inner/lists.rt:80:1
 pub returns : goal.returns
-returns c = ?
+returns c = count_end c.args.v c.args.list.now c.loop-i.n c.loop-i.i (search rules) c.loop-i.invariant.1.1

@@ -1,11 +1,11 @@
-use Rattle.std.proofs.Common.{length, ◌-◌, ◌≡◌, ◌+◌, ◌≤◌, replicate, ℕ, ◌*◌, ◌<◌}
-use Rattle.std.proofs.Math.Seq.{paste}
-use Rattle.radices.specs.Lists.{is_radix, first_bad, index_of, count_of, running_product}
+-- `radices::inner::lists::count_of` meets its contract. Assumes nothing.
+use Rattle.sequences.proofs.Basics.{◌≡◌, ◌+◌, ◌-◌, ◌≤◌, ⊎_elim, length, drop, rules}
+use Rattle.radices.specs.Lists.{count_of}
+use Rattle.radices.proofs.Lists.{count_hit, count_miss, count_end}
 use Rattle.radices.proofs.inner.lists.count_of.Given as goal
 
 abbrev pub invariant-loop-i : goal.invariant-loop-i
-invariant-loop-i l = ?
+invariant-loop-i l = (l.i ≤ length l.list) × ((l.n ≤ l.i) × (l.n + count_of l.v (drop l.i l.list) ≡ count_of l.v l.list))
 
--- proposed from the loop's first test
 abbrev pub decreases-loop-i : goal.decreases-loop-i
 decreases-loop-i l = length l.list - l.i

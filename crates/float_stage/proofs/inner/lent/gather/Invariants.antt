@@ -1,0 +1,12 @@
+-- `float_stage::inner::lent::gather` meets its contract. Assumes nothing.
+use Rattle.sequences.proofs.Basics.{◌≡◌, ◌+◌, ◌-◌, ◌*◌, ◌≤◌, ◌<◌, arith, length, rules}
+use Rattle.floats.specs.Complexes.{cell}
+use Rattle.storing.specs.Parts.{Wrote}
+use Rattle.storing.proofs.Writes.{wrote_none, wrote_step, wrote_all}
+use Rattle.float_stage.proofs.inner.lent.gather.Given as goal
+
+abbrev pub invariant-loop-u : goal.invariant-loop-u
+invariant-loop-u l = (l.u ≤ l.step) × Wrote (λ k. cell l.tw (l.n + k * l.initial.t)) l.from l.u l.at l.t
+
+abbrev pub decreases-loop-u : goal.decreases-loop-u
+decreases-loop-u l = l.step - l.u

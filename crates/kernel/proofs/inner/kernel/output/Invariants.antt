@@ -1,0 +1,13 @@
+-- `kernel::inner::kernel::output` meets its contract. Assumes nothing.
+use Rattle.sequences.proofs.Basics.{◌≡◌, refl, ap, ◌∙◌, ◌+◌, ◌-◌, ◌*◌, ◌≤◌, ◌<◌, mod-lt, mul-le-mul, arith, get_or, rules}
+use Rattle.schedule.specs.Stage.{plain, total}
+use Rattle.floats.specs.Complexes.{blank}
+use Rattle.kernel.specs.Parts.{untwiddled}
+use Rattle.kernel.proofs.Kernel.{total_next}
+use Rattle.kernel.proofs.inner.kernel.output.Given as goal
+
+abbrev pub invariant-loop-q : goal.invariant-loop-q
+invariant-loop-q l = (0 < l.q) × (l.q ≤ l.r) × (l.acc ≡ total untwiddled l.r (λ k. get_or l.c k blank) l.p (l.q - 1))
+
+abbrev pub decreases-loop-q : goal.decreases-loop-q
+decreases-loop-q l = l.r - l.q

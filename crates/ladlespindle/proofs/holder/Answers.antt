@@ -1,0 +1,10 @@
+-- `ladlespindle::holder` meets its contract. Assumes nothing.
+use Rattle.sequences.proofs.Basics.{sym, ap, ◌∙◌, rules}
+use Rattle.refusal.specs.Refusal.{left}
+use Rattle.refusal.specs.declared.Verdict.{Verdict}
+use Rattle.counts.specs.Counts.{buffer_number, result_in}
+use Rattle.ladlespindle.proofs.holder.Goals as goal
+
+pub returns-in-Accepted : goal.returns-in-Accepted
+returns-in-Accepted c = let a = c.args in c.number.ensures.answer ∙ ap buffer_number c.result_in.ensures
+    ∙ ap (λ (v : Verdict). left v (buffer_number (result_in a.count)) 0) (sym c.in-Accepted.is)

@@ -1,0 +1,9 @@
+-- `skip` meets its contract: no more is read than is to be, and each turn reads some, or is the last. Assumes nothing.
+use Rattle.sequences.proofs.Basics.{◌≤◌, ◌-◌, rules}
+use Rattle.listen_input.proofs.inner.source.skip.Given as goal
+
+abbrev pub invariant-loop-done : goal.invariant-loop-done
+invariant-loop-done l = l.done ≤ l.count
+
+abbrev pub decreases-loop-done : goal.decreases-loop-done
+decreases-loop-done l = l.count - l.done

@@ -1,0 +1,26 @@
+-- `listening::inner::lengths::nearest_served` meets its contract. The invariant: what is left of the search finds the same. Assumes nothing.
+use Rattle.sequences.proofs.Basics.{◌≡◌, sym, ap, ◌∙◌, ℕ, ◌-◌, ◌≤◌, arith, rules}
+use Rattle.listening.specs.Lengths.{served_from, nearest_served}
+use Rattle.listening.proofs.Lengths.{served_first, served_below, served_above, served_on}
+use Rattle.listening.proofs.inner.lengths.nearest_served.Goals as goal
+
+pub loop-apart-init : goal.loop-apart-init
+loop-apart-init c = (search rules, served_first c.args.n)
+
+pub returns-then-is_served : goal.returns-then-is_served
+returns-then-is_served c = sym (served_below c.loop-apart.apart c.args.n c.loop-apart-test.true (sym c.is_served.ensures ∙ c.if-is_served.true)) ∙ c.loop-apart.invariant.1
+
+pub returns-then-is_served-2 : goal.returns-then-is_served-2
+returns-then-is_served-2 c = sym (served_above c.loop-apart.apart c.args.n c.loop-apart-test.true (sym c.is_served.ensures ∙ c.if-is_served.false)
+    (sym c.is_served-in-loop-apart.ensures ∙ c.if-is_served-2.true)) ∙ c.loop-apart.invariant.1
+
+pub loop-apart-preserved : goal.loop-apart-preserved
+loop-apart-preserved c = (
+  search rules,
+  served_on c.loop-apart.apart c.args.n c.loop-apart-test.true (sym c.is_served.ensures ∙ c.if-is_served.false)
+      (sym c.is_served-in-loop-apart.ensures ∙ c.if-is_served-2.false) ∙ c.loop-apart.invariant.1,
+)
+
+pub returns : goal.returns
+unfolding served_from
+returns c = let n = c.args.n in ap (λ (k : ℕ). served_from k c.loop-apart.apart n) {x = 0} {y = n - c.loop-apart.apart} (omega arith) ∙ c.loop-apart.invariant.1

@@ -1,0 +1,41 @@
+-- `pcm::inner::samples::read_samples` meets its contract. Assumes nothing.
+use Rattle.sequences.proofs.Basics.{◌≡◌, sym, ap, ◌∙◌, ℕ, ◌+◌, ◌*◌, ◌-◌, ◌<◌, ◌≤◌, arith, length, get_or, rules}
+use lib.Ieee.{nan}
+use Rattle.sequences.proofs.Tables.{set_more, table_all}
+use Rattle.little.specs.Numbers.{number_at}
+use Rattle.little.proofs.Numbers.{number_two}
+use Rattle.pcm.specs.Samples.{sample_of, samples_at}
+use Rattle.pcm.proofs.inner.samples.read_samples.Goals as goal
+
+pub loop-i-init : goal.loop-i-init
+loop-i-init c = (search rules, search rules, λ k l. absurd (omega arith))
+
+pub overflow_cast-bytes : goal.overflow_cast-bytes
+overflow_cast-bytes c = let a = c.args in omega (arith, c.type_inv.bytes (a.from + 2 * c.loop-i.i))
+
+pub overflow_cast-bytes-in-loop-i : goal.overflow_cast-bytes-in-loop-i
+overflow_cast-bytes-in-loop-i c = let a = c.args in omega (arith, c.type_inv.bytes (a.from + 2 * c.loop-i.i + 1))
+
+pub overflow_mul-bytes : goal.overflow_mul-bytes
+overflow_mul-bytes c = let a = c.args in omega (arith, c.type_inv.bytes (a.from + 2 * c.loop-i.i + 1))
+
+pub overflow_add-bytes : goal.overflow_add-bytes
+overflow_add-bytes c = let at = c.args.from + 2 * c.loop-i.i in
+    omega (arith, c.type_inv.bytes at, c.type_inv.bytes (at + 1))
+
+pub sample-requires : goal.sample-requires
+sample-requires c = let at = c.args.from + 2 * c.loop-i.i in
+    omega (arith, c.type_inv.bytes at, c.type_inv.bytes (at + 1))
+
+pub loop-i-preserved : goal.loop-i-preserved
+loop-i-preserved c = let l = c.loop-i in let a = c.args in (
+  search rules,
+  search rules,
+  set_more (λ (k : ℕ). sample_of (number_at 2 a.bytes.now (a.from + 2 * k))) l.output l.i _ nan (search rules)
+      (c.sample.ensures ∙ ap sample_of (sym (number_two a.bytes.now (a.from + 2 * l.i)))) l.invariant.2,
+)
+
+pub returns : goal.returns
+unfolding samples_at
+returns c = let l = c.loop-i in let a = c.args in let e : l.i ≡ length a.output.now = omega (arith, l.invariant.0, c.loop-i-test.false) in
+    table_all (λ (k : ℕ). sample_of (number_at 2 a.bytes.now (a.from + 2 * k))) l.output _ nan l.invariant.1 (rw e at l.invariant.2)

@@ -1,0 +1,7 @@
+-- `number_line` adds a name, a number and the line end. Assumes nothing.
+use Rattle.sequences.proofs.Basics.{refl, arith, rules}
+use Rattle.text.proofs.Growing.{then, said}
+use Rattle.plan_text.proofs.inner.lines.number_line.Goals as goal
+
+pub returns : goal.returns
+returns c = said refl (omega arith) (then c.with_bytes-named.ensures (then c.with_number.ensures c.with_byte.ensures))

@@ -1,0 +1,34 @@
+-- `plan_text::report` meets its promise: what is read, planned and printed is what the definition says. Assumes nothing.
+use Rattle.sequences.proofs.Basics.{sym, ap, ◌∙◌, ℕ, arith, take, length-take, length-take-le, rules}
+use Rattle.refusal.specs.declared.Verdict.{Verdict}
+use Rattle.plan.specs.Record.{planned}
+use Rattle.tokens.specs.Tokens.{radices}
+use Rattle.plan_text.specs.Report.{lines_by, lines_of}
+use Rattle.plan_text.proofs.Plans.{planned_ok, take_least, reported}
+use Rattle.plan_text.proofs.report.Goals as goal
+
+pub slice_bounds-read_radices-end : goal.slice_bounds-read_radices-end
+slice_bounds-read_radices-end c = sym (length-take-le c.before.least.result c.before.before.before.args.input.now (omega arith))
+
+pub read_radices-tokens-requires : goal.read_radices-tokens-requires
+read_radices-tokens-requires c = omega (arith, length-take c.before.least.result c.before.before.before.args.input.now)
+
+pub slice_bounds-list-end : goal.slice_bounds-list-end
+slice_bounds-list-end c = omega arith
+
+pub slice_bounds-plan-end : goal.slice_bounds-plan-end
+slice_bounds-plan-end c = let r = c.read_radices-tokens.result in sym (length-take-le r.count r.list (omega arith))
+
+pub plan_lines-requires : goal.plan_lines-requires
+plan_lines-requires c = planned_ok _ c.plan-answer.result c.plan-answer.ensures.answer
+    c.in-Accepted.is
+
+pub returns-in-Accepted : goal.returns-in-Accepted
+returns-in-Accepted c = let input = c.args.input.now in let a = c.plan-answer in reported (ap (λ (v : Verdict). lines_by v a.result.plan a.result.merges) (sym c.in-Accepted.is) ∙ ap lines_of (a.ensures.answer
+    ∙ ap planned (c.read_radices-tokens.ensures.answer
+    ∙ ap radices (ap (λ (k : ℕ). take k input) c.least-read.ensures ∙ take_least 4096 input)))) c.plan_lines.ensures
+
+pub returns-in-Refused : goal.returns-in-Refused
+returns-in-Refused c = let input = reading.before.before.before.before.args.input.now in let a = c.plan-answer in reported (ap (λ (v : Verdict). lines_by v a.result.plan a.result.merges) (sym c.in-Refused.is) ∙ ap lines_of
+    (a.ensures.answer ∙ ap planned (c.read_radices-tokens.ensures.answer
+    ∙ ap radices (ap (λ (k : ℕ). take k input) reading.before.before.least.ensures ∙ take_least 4096 input)))) c.refusal_line.ensures

@@ -1,0 +1,11 @@
+-- `powers::inner::power::powers` meets its contract. Assumes nothing.
+use Rattle.sequences.proofs.Basics.{◌≡◌, refl, ◌∙◌, ℕ, ◌+◌, ◌-◌, ◌^◌, ◌%◌, ◌≤◌, ◌<◌, arith, length-set, length, get_or, rules}
+use Rattle.sequences.proofs.Tables.{set_more}
+use Rattle.powers.proofs.Powers.{power_none, next_power, product_fits, below_mod}
+use Rattle.powers.proofs.inner.power.powers.Given as goal
+
+abbrev pub invariant-loop-t : goal.invariant-loop-t
+invariant-loop-t l = (1 ≤ l.t) × (l.t ≤ 8) × (length l.all ≡ 8) × ((k : ℕ) → k < l.t → get_or l.all k 0 ≡ l.w ^ k % l.m)
+
+abbrev pub decreases-loop-t : goal.decreases-loop-t
+decreases-loop-t l = 8 - l.t

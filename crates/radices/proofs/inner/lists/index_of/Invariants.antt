@@ -1,0 +1,12 @@
+-- `radices::inner::lists::index_of` meets its contract. Assumes nothing.
+use Rattle.sequences.proofs.Basics.{sym, ◌≡◌, ℕ, ◌+◌, ◌-◌, ◌≤◌, eqb, length, drop, eq-eqb, ne_eqb, rules}
+use Rattle.sequences.proofs.First.{first_skip, first_here, first_none}
+use Rattle.radices.specs.Lists.{index_of}
+use Rattle.sequences.specs.Lists.{first_that}
+use Rattle.radices.proofs.inner.lists.index_of.Given as goal
+
+abbrev pub invariant-loop-i : goal.invariant-loop-i
+invariant-loop-i l = (l.i ≤ length l.list) × (first_that (λ (b : ℕ). eqb b l.v) l.list ≡ l.i + first_that (λ (b : ℕ). eqb b l.v) (drop l.i l.list))
+
+abbrev pub decreases-loop-i : goal.decreases-loop-i
+decreases-loop-i l = length l.list - l.i

@@ -1,0 +1,9 @@
+-- `recorded::inner::words::summed` meets its contract, and ends: the measure is how many words are left. Assumes nothing.
+use Rattle.sequences.proofs.Basics.{◌-◌, ◌≤◌, ◌<◌, length, rules}
+use Rattle.recorded.proofs.inner.words.summed.Given as goal
+
+abbrev pub invariant-loop-i : goal.invariant-loop-i
+invariant-loop-i l = (l.i ≤ length l.words) × (l.sum < 4294967291)
+
+abbrev pub decreases-loop-i : goal.decreases-loop-i
+decreases-loop-i l = length l.words - l.i

@@ -1,0 +1,39 @@
+-- `residues::inner::drive::drive` meets its contract. Assumes nothing.
+use Rattle.sequences.proofs.Basics.{◌≡◌, refl, sym, ◌∙◌, ℕ, ◌-◌, ◌≤◌, arith, ⊎_elim, List, rules}
+use Rattle.schedule.specs.Buffers.{Two, alternated}
+use Rattle.schedule.proofs.Buffers.{even_next, odd_next}
+use Rattle.residues.specs.Residues.{stage_of}
+use Rattle.residues.proofs.Runs.{Left, as_long, even_workable, odd_workable}
+use Rattle.residues.proofs.inner.drive.drive.Goals as goal
+
+pub loop-k-init : goal.loop-k-init
+unfolding alternated
+loop-k-init c = (omega arith, (refl, refl))
+
+pub work-requires : goal.work-requires
+work-requires c = let s = c4.before.before.before in let l = c4.loop in
+    even_workable s.args.scratch.now s.pre l.«data» l.scratch l.k l.inv.1 c.before.before.before.loop-test.taken
+    c.before.before.if1.taken
+
+pub work-requires-else-k-eq0 : goal.work-requires-else-k-eq0
+work-requires-else-k-eq0 c = let s = c4.before.before.before in let l = c4.loop in
+    odd_workable s.args.scratch.now s.pre l.«data» l.scratch l.k l.inv.1 c.before.before.before.loop-test.taken
+    c.before.before.if1.left
+
+pub loop-k-preserved : goal.loop-k-preserved
+loop-k-preserved c = let a = c.args in let l = c.loop-k in let f : ℕ → List ℕ → List ℕ = λ j. stage_of a.plan j a.m a.w in
+    let b : Two ℕ = (a.«data».now, a.scratch.now) in (
+      omega (arith, c.loop-k-test.true),
+      ⊎_elim (λ e. even_next f b l.k l.«data» l.scratch _ _ e.0.taken l.invariant.1.0 e.6 (e.7 ∙ e.3.ensures))
+          (λ e. odd_next f b l.k l.«data» l.scratch _ _ e.0.left l.invariant.1.1 (e.6 ∙ e.3.ensures) e.7) c.if-k-eq0.branch,
+    )
+
+pub shape_of-data : goal.shape_of-data
+shape_of-data c = let l = c.loop-k in (as_long c.args.scratch.now c.requires l.«data» l.scratch l.k l.invariant.1).0 ∙ sym c.requires.long
+
+pub shape_of-scratch : goal.shape_of-scratch
+shape_of-scratch c = let l = c.loop-k in (as_long c.args.scratch.now c.requires l.«data» l.scratch l.k l.invariant.1).1 ∙ sym c.requires.wide
+
+pub returns : goal.returns
+returns c = let l = c.loop-k in let e : l.k ≡ c.args.plan.count = omega (arith, l.invariant.0, c.loop-k-test.false) in
+    rw e at l.invariant.1

@@ -1,0 +1,21 @@
+-- `scan::inner::scan::all_within` meets its contract. Assumes nothing.
+use Rattle.sequences.proofs.Basics.{◌≡◌, sym, subst, ◌∙◌, ◌≤◌, ◌+◌, ◌-◌, arith, true, false≢true, ⊎_elim, not-false, rules}
+use Rattle.scan.specs.Scan.{SquaresTell, AllWithin}
+use Rattle.scan.proofs.Scan.{within_next}
+use Rattle.scan.proofs.inner.scan.all_within.Goals as goal
+
+pub loop-k-init : goal.loop-k-init
+loop-k-init c = (search rules, λ t q k l. absurd (omega arith))
+
+pub loop-k-preserved : goal.loop-k-preserved
+loop-k-preserved c = let a = c.args in let l = c.loop-k in (
+  search rules,
+  λ t q. ⊎_elim (λ w. absurd (false≢true (sym w.1 ∙ t)))
+      (λ w. within_next a.b a.xs.now a.i l.k (q _ (c.type_inv.xs (a.i + l.k)) (not-false _ w.0.left))
+      (l.invariant.1 (sym w.1 ∙ t) q))
+      c.if-not-x-bb.branch,
+)
+
+pub returns : goal.returns
+returns c = let a = c.args in let l = c.loop-k in let e : l.k ≡ 64 = omega (arith, l.invariant.0, c.loop-k-test.false) in
+    λ t q. subst (AllWithin a.b a.xs.now a.i) e (l.invariant.1 t q)

@@ -1,0 +1,22 @@
+-- `spectrum::inverse` meets its contract. Assumes nothing.
+use Rattle.sequences.proofs.Basics.{refl, sym, ◌∙◌, length, rules}
+use lib.Ieee.{of_bits}
+use Rattle.refusal.proofs.Rows.{settles_refused, settles_accepted}
+use Rattle.spectrum.proofs.Verdicts.{invertible}
+use Rattle.spectrum.proofs.inverse.Goals as goal
+
+pub inverse-requires : goal.inverse-requires
+unfolding of_bits
+inverse-requires c = let a = c.args in invertible a.plan a.width _ _ (length a.input.now) (length a.output.now) (length a.scratch.now) 48 a.input.now
+    a.stage-twiddles.now a.end-twiddles.now _ c.is_bins-is_input.ensures refl
+    (c.lent.ensures 48 refl) c.in-Accepted.is
+
+pub returns-in-Accepted : goal.returns-in-Accepted
+unfolding of_bits
+returns-in-Accepted c = let made = c.inverse.ensures in let told = rw c.is_bins-is_input.ensures at (c.lent.ensures 48 refl) in
+    settles_accepted _ _ _ _ (sym c.in-Accepted.is ∙ told) (λ i. (made.0 i, made.1 i))
+
+pub returns-in-Refused : goal.returns-in-Refused
+unfolding of_bits
+returns-in-Refused c = let told = rw c.is_bins-is_input.ensures at (c.lent.ensures 48 refl) in
+    settles_refused _ _ _ _ (sym c.in-Refused.is ∙ told)

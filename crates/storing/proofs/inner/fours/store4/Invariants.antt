@@ -1,0 +1,10 @@
+-- `storing::inner::fours::store4` meets its contract. Assumes nothing.
+use Rattle.sequences.proofs.Basics.{◌-◌, arith}
+use Rattle.storing.proofs.Batches.{Storing, storing_none, storing_asks, storing_next, storing_all}
+use Rattle.storing.proofs.inner.fours.store4.Given as goal
+
+abbrev pub invariant-loop-next : goal.invariant-loop-next
+invariant-loop-next l = Storing l.initial.dst l.m l.s l.r l.even l.ra l.ia l.rb l.ib l.i l.dst l.next.at.block l.next.at.col l.next.j
+
+abbrev pub decreases-loop-next : goal.decreases-loop-next
+decreases-loop-next l = l.s - l.next.j

@@ -1,0 +1,13 @@
+-- `with_right` adds the blanks and the digits, at most 20 together. Assumes nothing.
+use Rattle.sequences.proofs.Basics.{refl, arith, rules}
+use Rattle.text.specs.Lines.{right}
+use Rattle.text.proofs.Decimal.{decimal_short}
+use Rattle.text.proofs.Growing.{then, said}
+use Rattle.text.proofs.inner.text.with_right.Goals as goal
+
+pub with_digits-requires : goal.with_digits-requires
+with_digits-requires c = omega (arith, decimal_short 19 c.args.n (omega arith))
+
+pub returns : goal.returns
+unfolding right
+returns c = said refl (omega (arith, decimal_short 19 c.args.n (omega arith))) (then c.with_indent.ensures c.with_digits.ensures)

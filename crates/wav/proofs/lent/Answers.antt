@@ -1,0 +1,29 @@
+-- `lent` goes down the rows of a file to write. Assumes nothing.
+use Rattle.sequences.proofs.Basics.{rules}
+use Rattle.refusal.proofs.Rows.{deciding}
+use Rattle.wav.specs.Wav.{write_verdict}
+use Rattle.wav.proofs.lent.Goals as goal
+
+pub returns-then-rate-eq0 : goal.returns-then-rate-eq0
+unfolding write_verdict
+returns-then-rate-eq0 c = search deciding depth 20
+
+pub returns-then-rate-gt-FASTEST : goal.returns-then-rate-gt-FASTEST
+unfolding write_verdict
+returns-then-rate-gt-FASTEST c = search deciding depth 20
+
+pub returns-then-n-gt2147483629 : goal.returns-then-n-gt2147483629
+unfolding write_verdict
+returns-then-n-gt2147483629 c = search deciding depth 20
+
+pub returns-then-file-n : goal.returns-then-file-n
+unfolding write_verdict
+returns-then-file-n c = search deciding depth 20
+
+pub returns-then-unfit-n : goal.returns-then-unfit-n
+unfolding write_verdict
+returns-then-unfit-n c = search deciding depth 20
+
+pub returns : goal.returns
+unfolding write_verdict
+returns c = search deciding depth 20
