@@ -7,7 +7,7 @@ use Rattle.residues.proofs.Runs.{Left, as_long, even_workable, odd_workable}
 use Rattle.residues.proofs.inner.drive.drive.Given as goal
 
 abbrev pub invariant-loop-k : goal.invariant-loop-k
-invariant-loop-k l = (l.k ≤ l.initial.scratch) × Left l.plan l.m l.w l.count l.initial.data «data» l.scratch l.k
+invariant-loop-k l = (l.k ≤ l.count) × Left l.plan l.m l.w l.initial.«data» l.initial.scratch l.«data» l.scratch l.k
 
 abbrev pub decreases-loop-k : goal.decreases-loop-k
-decreases-loop-k l = l.initial.scratch - l.k
+decreases-loop-k l = l.count - l.k

@@ -32,9 +32,9 @@ loop-i-smaller-then-k-s c = omega (arith, c.loop-i-test.true)
 pub loop-i-preserved-then-k-s : goal.loop-i-preserved-then-k-s
 loop-i-preserved-then-k-s c = let l = c.loop-i in let o = c.one in let a = c.args in let h = c.requires.0 in (
   omega (arith, c.loop-i-test.true),
-  o.kept.1.0 ∙ l.invariant.1,
+  o.auto.dst ∙ l.invariant.1,
   standing_block a.m a.step a.s a.r h.blocks.stride l.invariant.2 h.modulus.two c.if-k-s.true,
-  made_next h l.invariant.2 l.dst o.last.1.0 o.ensures l.invariant.3,
+  made_next h l.invariant.2 l.dst o.new.dst o.ensures l.invariant.3,
 )
 
 pub overflow_mul-v : goal.overflow_mul-v
@@ -49,9 +49,9 @@ loop-i-smaller c = omega (arith, c.loop-i-test.true)
 pub loop-i-preserved : goal.loop-i-preserved
 loop-i-preserved c = let l = c.loop-i in let o = c.one in let a = c.args in let h = c.requires.0 in (
   omega (arith, c.loop-i-test.true),
-  o.kept.1.0 ∙ l.invariant.1,
+  o.auto.dst ∙ l.invariant.1,
   standing_next a.m a.step a.s a.r h.blocks.stride l.invariant.2 c.if-k-s.false,
-  made_next h l.invariant.2 l.dst o.last.1.0 o.ensures l.invariant.3,
+  made_next h l.invariant.2 l.dst o.new.dst o.ensures l.invariant.3,
 )
 
 pub shape_of-dst : goal.shape_of-dst

@@ -6,7 +6,7 @@ use Rattle.residues.proofs.inner.stage.spread.Goals as goal
 
 pub every-requires-2 : goal.every-requires-2
 every-requires-2 c = (
-  rw c.every.kept.1.1.0 c.requires.0,
+  rw c.every.auto.dst c.requires.0,
   c.requires.1,
   omega arith,
 )
