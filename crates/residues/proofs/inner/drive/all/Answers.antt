@@ -1,5 +1,4 @@
 -- `residues::inner::drive::all` meets its contract. Assumes nothing.
-use Rattle.sequences.proofs.Basics.{rules}
 use Rattle.schedule.proofs.Buffers.{driven_copied, driven_kept}
 use Rattle.residues.specs.Residues.{stage_of}
 use Rattle.residues.proofs.inner.drive.all.Goals as goal

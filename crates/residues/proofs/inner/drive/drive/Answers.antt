@@ -1,9 +1,9 @@
 -- `residues::inner::drive::drive` meets its contract. Assumes nothing.
-use Rattle.sequences.proofs.Basics.{◌≡◌, refl, sym, ◌∙◌, ℕ, ◌-◌, ◌≤◌, arith, ⊎_elim, List, rules}
+use Rattle.sequences.proofs.Basics.{◌≡◌, refl, sym, ◌∙◌, ℕ, arith, List}
 use Rattle.schedule.specs.Buffers.{Two, alternated}
 use Rattle.schedule.proofs.Buffers.{even_next, odd_next}
 use Rattle.residues.specs.Residues.{stage_of}
-use Rattle.residues.proofs.Runs.{Left, as_long, even_workable, odd_workable}
+use Rattle.residues.proofs.Runs.{as_long, even_workable, odd_workable}
 use Rattle.residues.proofs.inner.drive.drive.Goals as goal
 use Rattle.residues.proofs.inner.drive.drive.Goals.{then-k-eq0, else-k-eq0}
 

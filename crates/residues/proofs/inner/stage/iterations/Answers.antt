@@ -1,7 +1,6 @@
 -- `residues::inner::stage::iterations` meets its contract. Assumes nothing.
-use Rattle.sequences.proofs.Basics.{◌≡◌, refl, ◌∙◌, ◌-◌, ◌≤◌, arith, length}
-use Rattle.residues.specs.Parts.{output_of, Made}
-use Rattle.residues.proofs.Stage.{Standing, standing_first, standing_next, standing_block, width_few, block_few, one_asks, made_next}
+use Rattle.sequences.proofs.Basics.{◌≡◌, refl, ◌∙◌, arith}
+use Rattle.residues.proofs.Stage.{standing_first, standing_next, standing_block, width_few, block_few, one_asks, made_next}
 use Rattle.powers.proofs.Powers.{below_mod, product_fits}
 use Rattle.residues.proofs.inner.stage.iterations.Goals as goal
 

@@ -1,5 +1,5 @@
 -- `residues::inner::stage::spread` meets its contract. Assumes nothing.
-use Rattle.sequences.proofs.Basics.{arith, rules}
+use Rattle.sequences.proofs.Basics.{arith}
 use Rattle.schedule.proofs.Fill.{every_both}
 use Rattle.residues.proofs.Arms.{steps_apart}
 use Rattle.residues.proofs.inner.stage.spread.Goals as goal

@@ -1,5 +1,5 @@
 -- `residues::inner::stage::work` meets its contract. Assumes nothing.
-use Rattle.sequences.proofs.Basics.{◌<◌, arith, rules}
+use Rattle.sequences.proofs.Basics.{◌<◌, arith}
 use Rattle.plan.proofs.Bounds.{plan_order}
 use Rattle.schedule.proofs.Plans.{found_some, found_stride}
 use Rattle.residues.specs.Residues.{Under}
