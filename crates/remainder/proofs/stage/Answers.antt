@@ -1,5 +1,5 @@
 -- `remainder::stage` meets its contract. Assumes nothing.
-use Rattle.sequences.proofs.Basics.{sym, ◌∙◌, length, not-false, rules}
+use Rattle.sequences.proofs.Basics.{sym, ◌∙◌, length, rules}
 use Rattle.refusal.proofs.Rows.{deciding, settles_refused, settles_accepted}
 use Rattle.remainder.specs.Calls.{lent_verdict, stage_verdict}
 use Rattle.remainder.proofs.Verdicts.{taken}
