@@ -8,7 +8,9 @@ pub loop-apart-init : goal.loop-apart-init
 loop-apart-init c = (search rules, served_first c.args.n)
 
 pub returns-then-is_served : goal.returns-then-is_served
-returns-then-is_served c = sym (served_below c.loop-apart.apart c.args.n c.loop-apart-test.true (sym c.is_served.ensures ∙ c.if-is_served.true)) ∙ c.loop-apart.invariant.1
+returns-then-is_served c =
+    let l = c.loop-apart in
+    sym (served_below l.apart c.args.n c.loop-apart-test.true (sym c.is_served.ensures ∙ c.if-is_served.true)) ∙ l.invariant.1
 
 pub returns-then-is_served-2 : goal.returns-then-is_served-2
 returns-then-is_served-2 c = sym (served_above c.loop-apart.apart c.args.n c.loop-apart-test.true (sym c.is_served.ensures ∙ c.if-is_served.false)
@@ -23,4 +25,6 @@ loop-apart-preserved c = (
 
 pub returns : goal.returns
 unfolding served_from
-returns c = let n = c.args.n in ap (λ (k : ℕ). served_from k c.loop-apart.apart n) {x = 0} {y = n - c.loop-apart.apart} (omega arith) ∙ c.loop-apart.invariant.1
+returns c =
+    let l = c.loop-apart in let n = c.args.n in
+    ap (λ (k : ℕ). served_from k l.apart n) {x = 0} {y = n - l.apart} (omega arith) ∙ l.invariant.1
