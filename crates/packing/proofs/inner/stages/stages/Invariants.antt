@@ -9,8 +9,8 @@ use Rattle.packing.proofs.Stages.{stages_none, stage_shape, part_bounds, part_ro
 use Rattle.packing.proofs.inner.stages.stages.Given as goal
 
 abbrev pub invariant-loop-j : goal.invariant-loop-j
-invariant-loop-j l = (1 ≤ l.j) × (0 < l.initial.out → l.j ≤ l.initial.out) × (length l.out ≡ length l.plan)
-    × (take (2 * twiddle_start l.count.half l.count.radices l.j) l.out ≡ stages_words l.count.half (in_use l.count) l.width l.j)
+invariant-loop-j l = (1 ≤ l.j) × (0 < l.count → l.j ≤ l.count) × (length l.out ≡ length l.initial.out)
+    × (take (2 * twiddle_start l.plan.half l.plan.radices l.j) l.out ≡ stages_words l.plan.half (in_use l.plan) l.width l.j)
 
 abbrev pub decreases-loop-j : goal.decreases-loop-j
-decreases-loop-j l = l.initial.out - l.j
+decreases-loop-j l = l.count - l.j
