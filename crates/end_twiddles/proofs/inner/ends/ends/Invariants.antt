@@ -9,7 +9,7 @@ use Rattle.end_twiddles.proofs.Ends.{end_index, end_next, ends_done}
 use Rattle.end_twiddles.proofs.inner.ends.ends.Given as goal
 
 abbrev pub invariant-loop-k : goal.invariant-loop-k
-invariant-loop-k l = (l.k ≤ l.step) × (length l.out ≡ length l.count) × ((p : ℕ) → p < l.k → pair_at nan l.out p ≡ end_twiddle l.direction l.n (p + 1))
+invariant-loop-k l = (l.k ≤ l.count) × (length l.out ≡ length l.initial.out) × ((p : ℕ) → p < l.k → pair_at nan l.out p ≡ end_twiddle l.direction l.n (p + 1))
 
 abbrev pub decreases-loop-k : goal.decreases-loop-k
-decreases-loop-k l = l.step - l.k
+decreases-loop-k l = l.count - l.k
