@@ -9,8 +9,8 @@ use Rattle.float_stage.proofs.First.{first_step, other, first_asks, room_at, fir
 use Rattle.float_stage.proofs.inner.first.first.Given as goal
 
 abbrev pub invariant-loop-j : goal.invariant-loop-j
-invariant-loop-j l = (l.j ≤ l.r) × (length l.dst ≡ length l.i)
-    × ((lent : ℕ → ℕ → Complex) → Done 1 l.initial.dst (output_of true l.len l.initial.dst l.src lent) l.i l.m → Done 1 l.initial.dst (output_of true l.len l.initial.dst l.src lent) l.dst (l.m + l.j))
+invariant-loop-j l = (l.j ≤ l.len) × (length l.dst ≡ length l.initial.dst)
+    × ((lent : ℕ → ℕ → Complex) → Done 1 l.r (output_of true l.m l.r l.src lent) l.initial.dst l.i → Done 1 l.r (output_of true l.m l.r l.src lent) l.dst (l.i + l.j))
 
 abbrev pub decreases-loop-j : goal.decreases-loop-j
-decreases-loop-j l = l.r - l.j
+decreases-loop-j l = l.len - l.j

@@ -10,7 +10,8 @@ use Rattle.float_stage.proofs.Rounds.{placed_first, Round, round_asks, round_nex
 use Rattle.float_stage.proofs.inner.stage.by_fours.Given as goal
 
 abbrev pub invariant-loop-i : goal.invariant-loop-i
-invariant-loop-i l = (l.i % 4 ≡ 0) × Round l.initial.dst l.s l.r l.even (output_of false l.end l.even l.src (lent_at l.end l.even 4 l.tw)) 0 l.ra l.ia l.rb l.ib l.m l.dst l.at.block l.at.col l.i
+invariant-loop-i l =
+    (l.i % 4 ≡ 0) × Round l.even l.end l.s l.r (output_of false l.m l.r l.src (lent_at l.m l.r 4 l.tw)) 0 l.ra l.ia l.rb l.ib l.initial.dst l.dst l.at.block l.at.col l.i
 
 abbrev pub decreases-loop-i : goal.decreases-loop-i
-decreases-loop-i l = l.s - l.i
+decreases-loop-i l = l.end - l.i
