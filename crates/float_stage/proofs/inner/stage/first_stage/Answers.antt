@@ -21,7 +21,7 @@ loop-i-smaller c = let n = c.least-len in let some : 0 < n.result = n.ensures.2 
 pub loop-i-preserved : goal.loop-i-preserved
 loop-i-preserved c = let l = c.loop-i in (
   omega (arith, c.least-len.ensures.0),
-  c.first.kept.1.1.0
+  c.first.auto.dst
       ∙ l.invariant.1,
   λ lent. c.first.ensures lent (l.invariant.2 lent),
 )
