@@ -6,7 +6,12 @@ use Rattle.plan_text.specs.Report.{factor_words}
 use Rattle.plan_text.proofs.Plans.{some_factors}
 use Rattle.plan_text.proofs.inner.lines.factor_words.Goals as goal
 
-pub spaced_radices-requires : goal.spaced_radices-requires
+pub returns-then-count-eq0 : goal.returns-then-count-eq0
 unfolding factor_words
-spaced_radices-requires c = said (ap (λ (k : ℕ). spaced (factor_words (take k c.before.before.before.args.radices))) (sym c.before.before.if1.taken)) (lit≤ tt)
-    c.with-bytes.ensures
+returns-then-count-eq0 c =
+    said (ap (λ (k : ℕ). spaced (factor_words (take k c.args.radices))) (sym c.if-count-eq0.true)) (lit≤ tt) c.with_bytes.ensures
+
+pub returns : goal.returns
+returns c =
+    let a = c.args in
+    said (ap spaced (sym (some_factors a.count a.radices (omega arith) (omega arith)))) (omega arith) c.spaced_radices.ensures

@@ -7,14 +7,12 @@ use Rattle.text.proofs.Growing.{then, said, holds, two_words}
 use Rattle.plan_text.specs.Report.{refusal_line}
 use Rattle.plan_text.proofs.inner.lines.refusal_line.Goals as goal
 
-pub number-requires : goal.number-requires
-number-requires c = omega arith
-
-pub place-requires : goal.place-requires
-place-requires c = omega arith
-
-pub with_byte-requires : goal.with_byte-requires
-with_byte-requires c = omega arith
-
 pub returns : goal.returns
-returns c = omega arith
+unfolding refusal_line
+returns c =
+    let n = c.number in let p = c.place in
+    holds {k = 50} c.empty.ensures (lit≤ tt)
+    (said (ap (λ (l : List ℕ). ascii "refused" ++ l) (two_words (decimal n.result) (decimal p.result) (10 ∷ []))
+    ∙ ap (λ (k : ℕ). line "refused" (decimal k ∷ (decimal p.result ∷ []))) n.ensures.answer
+    ∙ ap (λ (k : ℕ). line "refused" (decimal (number_of c.args.why) ∷ (decimal k ∷ []))) p.ensures.answer) (lit≤ tt)
+    (then c.with_bytes-named.ensures (then c.with_number-numbered.ensures (then c.with_number.ensures c.with_byte.ensures))))

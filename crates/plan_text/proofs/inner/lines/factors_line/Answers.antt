@@ -1,0 +1,7 @@
+-- `factors_line` adds the name, the words and the line end. Assumes nothing.
+use Rattle.sequences.proofs.Basics.{refl, lit≤}
+use Rattle.text.proofs.Growing.{then, said}
+use Rattle.plan_text.proofs.inner.lines.factors_line.Goals as goal
+
+pub returns : goal.returns
+returns c = said refl (lit≤ tt) (then c.with_bytes-named.ensures (then c.factor_words.ensures c.with_byte.ensures))
