@@ -1,6 +1,5 @@
 -- `turn::turn_of` meets its contract. Assumes nothing.
-use Rattle.sequences.proofs.Basics.{◌≡◌, sym, ◌∙◌, Bool, mod-lt, arith, true, refl}
-use Rattle.turn.specs.Turns.{housed}
+use Rattle.sequences.proofs.Basics.{sym, ◌∙◌, mod-lt, arith}
 use Rattle.turn.proofs.Index.{housed_pos}
 use Rattle.turn.proofs.Calls.{refused, accepted}
 use Rattle.turn.proofs.turn_of.Goals as goal

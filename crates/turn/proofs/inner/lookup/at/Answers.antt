@@ -4,7 +4,6 @@ use Rattle.house.proofs.Rule.{Some}
 use Rattle.house.proofs.Entries.{Both, entry_fits}
 use Rattle.house.specs.Entries.{entry_of}
 use Rattle.house.specs.declared.inner.entries.Entry.{Entry}
-use Rattle.turn.specs.Turns.{turn_at}
 use Rattle.turn.proofs.Lookup.{signed, signed_three, turn_whole, turn_general}
 use Rattle.turn.proofs.inner.lookup.at.Goals as goal
 

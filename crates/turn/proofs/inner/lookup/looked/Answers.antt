@@ -1,7 +1,5 @@
 -- `turn::inner::lookup::looked` meets its contract. Assumes nothing.
-use Rattle.sequences.proofs.Basics.{◌≡◌, sym, ◌∙◌, ◌*◌, ◌/◌, ◌<◌, arith}
-use Rattle.turn.specs.Calls.{part}
-use Rattle.turn.specs.Turns.{turn_at, turn_of}
+use Rattle.sequences.proofs.Basics.{sym, ◌∙◌, arith}
 use Rattle.turn.proofs.Index.{housed_pos, index_below}
 use Rattle.turn.proofs.inner.lookup.looked.Goals as goal
 

@@ -1,5 +1,5 @@
 -- `turn::inner::lookup::quarters` meets its contract. Assumes nothing.
-use Rattle.sequences.proofs.Basics.{arith, rules}
+use Rattle.sequences.proofs.Basics.{arith}
 use Rattle.turn.proofs.Lookup.{three_quarters}
 use Rattle.turn.proofs.inner.lookup.quarters.Goals as goal
 
