@@ -1,7 +1,6 @@
 -- `twiddle::inner::fill::fill` meets its contract. Assumes nothing.
 use Rattle.plan.proofs.Bounds.{plan_some}
 use Rattle.twiddle.proofs.Verdicts.{taken, fill_refused, fill_accepted}
-use Rattle.sequences.proofs.Basics.{rules}
 use Rattle.twiddle.proofs.inner.fill.fill.Goals as goal
 
 pub stages-requires : goal.stages-requires
