@@ -1,7 +1,7 @@
 /* brake.c: the regulator's brake: the heating runs only while blocks from the microphone are quiet from 200 to 300 Hz. The samples are made
  * in sounds.h in place of an ADC. Prints a line for each block, and exits 1 where the hive could not be opened.
  *
- *     cc -I include examples/brake.c target/staticlib/libladlespindle.a -o brake && ./brake
+ *     cc -I include examples/brake.c crates/ladlespindle/out/libladlespindle.a -o brake && ./brake
  *
  * `./brake THRESHOLD` takes another threshold: the power of the band at which the heating stops. A tone of amplitude A at a bin, full scale
  * being 1, has the power (A * n / 2)^2; without an argument the threshold is that of 1/32, far above what rounding hides: in 1,680 samples

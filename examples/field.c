@@ -1,7 +1,7 @@
 /* field.c: a hive in the field, with blocks of 640 samples, a length that filling does not serve: plan and words are constants in ROM. The
  * samples are made in sounds.h. Prints a line for each try, and exits 1 where the hive could not be opened.
  *
- *     cc -I include examples/field.c target/staticlib/libladlespindle.a -o field && ./field
+ *     cc -I include examples/field.c crates/ladlespindle/out/libladlespindle.a -o field && ./field
  *
  * words_640.h is what `tools/words 640 --rust` writes. At 16,000 Hz the band is the bins 8 to 12, of 25 Hz each, and the threshold is the
  * power of a tone of 1/32 of full scale. */

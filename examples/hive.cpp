@@ -1,7 +1,7 @@
 // hive.cpp: the regulator's brake in C++: a class that owns a hive and its room, and lets the heating run only while blocks are quiet. The
 // samples are made in sounds.h. Prints a line for each block, and exits 1 where the hive could not be opened.
 //
-//     c++ -std=c++11 -I include examples/hive.cpp target/staticlib/libladlespindle.a -o hive && ./hive
+//     c++ -std=c++11 -I include examples/hive.cpp crates/ladlespindle/out/libladlespindle.a -o hive && ./hive
 #include "ladlespindle_hive.h"
 #include "sounds.h"
 #include <array>

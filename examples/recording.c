@@ -1,7 +1,7 @@
 /* recording.c: a recording as a WAV file is measured, read and heard block by block, from 200 to 300 Hz. Prints what the file holds and a line for
  * each block; exits 1 where the file is refused or the hive could not be opened.
  *
- *     cc -I include examples/recording.c target/staticlib/libladlespindle.a -o recording && ./recording
+ *     cc -I include examples/recording.c crates/ladlespindle/out/libladlespindle.a -o recording && ./recording
  *
  * `./recording FILE` hears a file; without an argument one is made here, and written as a WAV file first. */
 #include "ladlespindle_hive.h"

@@ -24,10 +24,10 @@
  * Stack: a filling or a single turn takes at most 16 KB, which is the table of turns; a float stage, a transform or a hearing at most 8 KB; any
  * other call at most 2 KB.
  *
- * To link (x86-64 Linux, any C library): `rt staticlib ladlespindle` proves the functions and writes
- * target/staticlib/libladlespindle.a, which wants nothing but memcpy and memset:
+ * To link (x86-64 Linux, any C library): `rt lib` in crates/ladlespindle proves the functions and writes
+ * crates/ladlespindle/out/libladlespindle.a, which wants nothing but memcpy and memset:
  *
- *     cc -I include host.c target/staticlib/libladlespindle.a
+ *     cc -I include host.c crates/ladlespindle/out/libladlespindle.a
  */
 #ifndef LADLESPINDLE_H
 #define LADLESPINDLE_H
@@ -41,7 +41,7 @@ extern "C" {
 
 /* The version, 10000 * major + 100 * minor + patch, and the number of the interface, which goes up whenever a struct, a signature or the
  * meaning of an answer changes. A host that was compiled with this header links a library whose ladlespindle_interface() is the same. */
-#define LADLESPINDLE_VERSION 1200
+#define LADLESPINDLE_VERSION 1100
 #define LADLESPINDLE_INTERFACE 1
 uint32_t ladlespindle_version(void);
 uint32_t ladlespindle_interface(void);

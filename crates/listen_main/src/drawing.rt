@@ -2,28 +2,39 @@
 ghost use Rattle.std.specs.Prelude.{◌<◌, ◌≤◌, length};
 
 use levels::inner::levels::level_of;
-use libc::STDOUT_FILENO;
 use listen_input::inner::source::least;
 use listen_input::inner::told::printed;
 use listen_text::inner::plot::row_line;
+use std::io::Print;
 
 // Draws the sums of so many blocks of n samples, a row for each bin up to 9 and for a fifth more from then on; the band's bins stand in rows of their
 // own.
-pub fn draw(sums: &[f64], blocks: usize, n: usize, rate: usize, lo: usize, hi: usize, full: usize)
+pub fn draw(
+    rt: &HostRuntime,
+    sums: &[f64],
+    blocks: usize,
+    n: usize,
+    rate: usize,
+    lo: usize,
+    hi: usize,
+    full: usize,
+)
     requires { (length sums.now ≤ 3361) × (0 < n) × (rate ≤ 192000) × (full ≤ 65535) }
 {
     if blocks == 0 {
         return;
     }
-    io::write_all(
-        STDOUT_FILENO,
+    let _ = rt.write_all(
         b"mean spectrum, the band in #\n        Hz     dB  -90       -75       -60       -45       -30       -15       0\n",
     );
     let mut at: usize = 1;
     while at < sums.len() {
         let next = row_end(at, lo, hi, sums.len());
         let level = level_of(full, step(mean(sums, at, next, blocks)));
-        if !printed(row_line(hertz(at, rate, n), level, at >= lo && at <= hi)) {
+        if !printed(
+            rt,
+            row_line(hertz(at, rate, n), level, at >= lo && at <= hi),
+        ) {
             return;
         }
         at = next;

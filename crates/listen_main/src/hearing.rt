@@ -5,10 +5,9 @@ ghost use Rattle.listen_main.specs.Hearing.{Served, Rate, Ready, Runs};
 use crate::drawing::draw;
 use hear::Decision;
 use levels::inner::levels::{least_step, lowest_above, power_at, step_of};
-use libc::{STDERR_FILENO, STDOUT_FILENO};
 use listen_input::inner::options::Options;
-use listen_input::inner::source::{Got, Start, fill, least, skip};
-use listen_input::inner::told::{fault, printed, refused, refused_with};
+use listen_input::inner::source::{Got, Source, Start, fill, least, skip};
+use listen_input::inner::told::{fault, printed, refused, refused_with, say, say_number};
 use listen_text::inner::lines::{block_line, left_line, whole_line};
 use listening::inner::block::{full_scale, gather, listen};
 use listening::inner::lengths::{band, factors, is_served, most_feigned, nearest_served};
@@ -18,11 +17,21 @@ use pcm::inner::samples::read_samples;
 use plan::Record;
 use radices::Radices;
 use refusal::Verdict;
+use std::fs::File;
+use std::io;
+use std::io::{IsTerminal, Write};
 use text::Text;
 use twiddle::fill_forward;
 
-// How the hearing of blocks is set up: their plan, the rate, the bins of the band, the step of full scale, the threshold, and where progress is told,
-// a negative number for nowhere.
+// Where progress is told: nowhere, at descriptor 4, which the launcher sees to, or on standard error.
+#[derive(Clone, Copy)]
+enum Progress {
+    Nowhere,
+    Launcher,
+    Errors,
+}
+
+// How the hearing of blocks is set up: their plan, the rate, the bins of the band, the step of full scale, the threshold, and where progress is told.
 #[derive(Clone, Copy)]
 struct Setup {
     plan: Record,
@@ -33,7 +42,7 @@ struct Setup {
     threshold: f32,
     plot: bool,
     is_stream: bool,
-    progress: i32,
+    progress: Progress,
 }
 
 // How far the hearing is: blocks heard and those that fan, samples still to come, the bytes of a last block that is short, whether there may be
@@ -55,14 +64,15 @@ const MOST: usize = 1099511627776;
 const HERTZ: usize = 999999999;
 
 // Sets up what the options ask for, or says why it cannot be, and hears.
-pub fn prepare(fd: i32, o: Options, start: Start)
+pub fn prepare(rt: &HostRuntime, source: &mut Source, o: Options, start: Start)
     requires { Rate start.rate }
 {
     if is_served(o.block) {
-        with_plan(fd, o, start);
+        with_plan(rt, source, o, start);
         return;
     }
     refused_with(
+        rt,
         7,
         0,
         b"no block of ",
@@ -74,25 +84,25 @@ pub fn prepare(fd: i32, o: Options, start: Start)
 }
 
 // Sets up the plan.
-fn with_plan(fd: i32, o: Options, start: Start)
+fn with_plan(rt: &HostRuntime, source: &mut Source, o: Options, start: Start)
     requires { Served o.block × Rate start.rate }
 {
     let list: Radices = factors(o.block);
     let entries = list.entries;
     let plan = planned(&entries, list.count);
     if plan.n != o.block {
-        no_plan();
+        no_plan(rt);
         return;
     }
     if plan.half > 3360 {
-        no_plan();
+        no_plan(rt);
         return;
     }
     if plan.count > 13 {
-        no_plan();
+        no_plan(rt);
         return;
     }
-    with_band(fd, o, start, plan);
+    with_band(rt, source, o, start, plan);
 }
 
 // The plan of the first so many of a list's radices.
@@ -105,35 +115,36 @@ fn planned(entries: &[u8; 13], count: usize) -> Record
 }
 
 // Says that a length has no plan.
-fn no_plan() {
-    refused(7, 0, b"no block of this length is served: take 1680");
+fn no_plan(rt: &HostRuntime) {
+    refused(rt, 7, 0, b"no block of this length is served: take 1680");
 }
 
 // Sets up the band.
-fn with_band(fd: i32, o: Options, start: Start, plan: Record)
+fn with_band(rt: &HostRuntime, source: &mut Source, o: Options, start: Start, plan: Record)
     requires { Served plan.n × Rate start.rate × (plan.half ≤ 3360) × (plan.count ≤ 13) }
 {
     let bins = band(plan.n, start.rate, least(o.lo, HERTZ), least(o.hi, HERTZ));
     if o.hi > start.rate / 2 {
-        no_band(start.rate, plan.n);
+        no_band(rt, start.rate, plan.n);
         return;
     }
     if bins.lo > bins.hi {
-        no_band(start.rate, plan.n);
+        no_band(rt, start.rate, plan.n);
         return;
     }
     if bins.hi > plan.half {
-        no_band(start.rate, plan.n);
+        no_band(rt, start.rate, plan.n);
         return;
     }
-    with_threshold(fd, o, start, plan, bins);
+    with_threshold(rt, source, o, start, plan, bins);
 }
 
 // Says that a band is none, at a rate and a length of blocks.
-fn no_band(rate: usize, block: usize)
+fn no_band(rt: &HostRuntime, rate: usize, block: usize)
     requires { Rate rate × (0 < block) }
 {
     refused_with(
+        rt,
         14,
         0,
         b"this is no band with bins of its own: take --band LO HI with HI at most ",
@@ -145,12 +156,20 @@ fn no_band(rate: usize, block: usize)
 }
 
 // Sets up the threshold, which rounding alone must not reach.
-fn with_threshold(fd: i32, o: Options, start: Start, plan: Record, bins: Band)
+fn with_threshold(
+    rt: &HostRuntime,
+    source: &mut Source,
+    o: Options,
+    start: Start,
+    plan: Record,
+    bins: Band,
+)
     requires served { Served plan.n × Rate start.rate × (plan.half ≤ 3360) × (plan.count ≤ 13) }
     requires lo_le_hi { (bins.lo ≤ bins.hi) × (bins.hi ≤ plan.half) }
 {
     if o.level > 16000 {
         fault(
+            rt,
             b"no tone reaches a threshold above 0 dB: take --threshold 0 or less",
             b"",
         );
@@ -160,11 +179,12 @@ fn with_threshold(fd: i32, o: Options, start: Start, plan: Record, bins: Band)
     let feigned = most_feigned(plan.count, plan.half, bins.hi + 1 - bins.lo);
     let lowest = lowest_above(full, o.level, feigned);
     if lowest != o.level {
-        too_low(lowest);
+        too_low(rt, lowest);
         return;
     }
     hear_all(
-        fd,
+        rt,
+        source,
         start,
         Setup {
             plan,
@@ -175,42 +195,55 @@ fn with_threshold(fd: i32, o: Options, start: Start, plan: Record, bins: Band)
             threshold: power_at(least_step(full, o.level)),
             plot: o.plot,
             is_stream: o.is_stream,
-            progress: progress_at(),
+            progress: progress_at(rt),
         },
     );
 }
 
 // Says which is the lowest threshold.
-fn too_low(lowest: usize)
+fn too_low(rt: &HostRuntime, lowest: usize)
     requires { lowest ≤ 16000 }
 {
-    io::write_all(
-        STDERR_FILENO,
+    say(
+        rt,
         b"listen: rounding alone could reach this threshold: take --threshold -",
     );
-    io::print_decimal(STDERR_FILENO, ((16000 - lowest) / 10) as u64);
-    io::write_all(STDERR_FILENO, b".");
-    io::print_decimal(STDERR_FILENO, ((16000 - lowest) % 10) as u64);
-    io::write_all(STDERR_FILENO, b" or more\n");
+    say_number(rt, (16000 - lowest) / 10);
+    say(rt, b".");
+    say_number(rt, (16000 - lowest) % 10);
+    say(rt, b" or more\n");
 }
 
 // Where progress is told: on descriptor 4 where that is a terminal, which the launcher sees to, or on standard error where that is one and standard
 // output is none, on which lines would be told beside it.
-fn progress_at() -> i32 {
-    if libc::isatty(4) != 0 {
-        return 4;
+fn progress_at(rt: &HostRuntime) -> Progress {
+    if is_launched(rt) {
+        return Progress::Launcher;
     }
-    if libc::isatty(STDOUT_FILENO) != 0 {
-        return -1;
+    if rt.stdout().is_terminal() {
+        return Progress::Nowhere;
     }
-    if libc::isatty(STDERR_FILENO) != 0 {
-        return STDERR_FILENO;
+    if rt.stderr().is_terminal() {
+        return Progress::Errors;
     }
-    -1
+    Progress::Nowhere
+}
+
+// Whether descriptor 4 is a terminal.
+fn is_launched(rt: &HostRuntime) -> bool {
+    match launcher(rt) {
+        Ok(file) => file.is_terminal(),
+        Err(_) => false,
+    }
+}
+
+// What is open at descriptor 4, opened anew to be written to.
+fn launcher(rt: &HostRuntime) -> io::Result<File> {
+    File::options().write(true).open(rt, "/dev/fd/4")
 }
 
 // Hears the blocks, with room for the twiddles and the window of the longest ones.
-fn hear_all(fd: i32, start: Start, s: Setup)
+fn hear_all(rt: &HostRuntime, source: &mut Source, start: Start, s: Setup)
     requires { Ready s }
 {
     let plan = s.plan;
@@ -218,18 +251,19 @@ fn hear_all(fd: i32, start: Start, s: Setup)
     let stages = counts::stage_twiddles(plan).count;
     let ends = counts::end_twiddles(plan).count;
     if stages > 11028 {
-        no_plan();
+        no_plan(rt);
         return;
     }
     if ends > 1679 {
-        no_plan();
+        no_plan(rt);
         return;
     }
     let mut stage = [0f32; 22056];
     let mut end = [0f32; 3358];
     let mut weights = [0f32; 6720];
     fill_and_hear(
-        fd,
+        rt,
+        source,
         start,
         s,
         &mut stage[0..2 * stages],
@@ -240,7 +274,8 @@ fn hear_all(fd: i32, start: Start, s: Setup)
 
 // Fills the twiddles and the window, and hears the blocks.
 fn fill_and_hear(
-    fd: i32,
+    rt: &HostRuntime,
+    source: &mut Source,
     start: Start,
     s: Setup,
     stage: &mut [f32],
@@ -252,15 +287,24 @@ fn fill_and_hear(
     window(weights);
     let plan = s.plan;
     if is_accepted(
+        rt,
         fill_forward(plan, 1, stage, end),
         b"twiddles cannot be filled",
     ) {
-        hear_with(fd, start, s, stage, end, weights);
+        hear_with(rt, source, start, s, stage, end, weights);
     }
 }
 
 // Hears the blocks, with room for the longest ones.
-fn hear_with(fd: i32, start: Start, s: Setup, stage: &[f32], end: &[f32], weights: &[f32])
+fn hear_with(
+    rt: &HostRuntime,
+    source: &mut Source,
+    start: Start,
+    s: Setup,
+    stage: &[f32],
+    end: &[f32],
+    weights: &[f32],
+)
     requires { Ready s }
 {
     let plan = s.plan;
@@ -272,7 +316,8 @@ fn hear_with(fd: i32, start: Start, s: Setup, stage: &[f32], end: &[f32], weight
     let mut scratch = [0f32; 40320];
     let mut sums = [0f64; 3361];
     hear_in(
-        fd,
+        rt,
+        source,
         start,
         s,
         stage,
@@ -288,7 +333,8 @@ fn hear_with(fd: i32, start: Start, s: Setup, stage: &[f32], end: &[f32], weight
 
 // Hears the blocks, and tells the whole.
 fn hear_in(
-    fd: i32,
+    rt: &HostRuntime,
+    source: &mut Source,
     start: Start,
     s: Setup,
     stage: &[f32],
@@ -303,7 +349,8 @@ fn hear_in(
     requires { Ready s × (length bytes.old ≡ 2 * s.plan.n) × (length samples.old ≡ s.plan.n) × (length sums.old ≡ s.plan.half + 1) }
 {
     let c = hear_blocks(
-        fd,
+        rt,
+        source,
         start.samples,
         s,
         stage,
@@ -315,15 +362,15 @@ fn hear_in(
         scratch,
         sums,
     );
-    finish(fd, start, s, c, sums);
+    finish(rt, source, start, s, c, sums);
 }
 
 // Whether a verdict accepts; what it refuses is told.
-fn is_accepted(verdict: Verdict, what: &[u8]) -> bool {
+fn is_accepted(rt: &HostRuntime, verdict: Verdict, what: &[u8]) -> bool {
     match verdict {
         Verdict::Accepted => true,
         Verdict::Refused(why) => {
-            refused(why.number() as usize, why.place(), what);
+            refused(rt, why.number() as usize, why.place(), what);
             false
         }
     }
@@ -331,7 +378,8 @@ fn is_accepted(verdict: Verdict, what: &[u8]) -> bool {
 
 // Hears block after block, of so many samples.
 fn hear_blocks(
-    fd: i32,
+    rt: &HostRuntime,
+    source: &mut Source,
     left: usize,
     s: Setup,
     stage: &[f32],
@@ -357,7 +405,7 @@ fn hear_blocks(
     let mut i: usize = 0;
     while i < MOST && c.is_open {
         c = next(
-            fd, s, c, stage, end, weights, bytes, samples, spectrum, scratch, sums,
+            rt, source, s, c, stage, end, weights, bytes, samples, spectrum, scratch, sums,
         );
         i += 1;
     }
@@ -381,7 +429,8 @@ fn closed(c: Course, last: usize, is_well: bool) -> Course
 
 // Reads the next block, hears it and tells it.
 fn next(
-    fd: i32,
+    rt: &HostRuntime,
+    source: &mut Source,
     s: Setup,
     c: Course,
     stage: &[f32],
@@ -396,24 +445,24 @@ fn next(
     requires { Ready s × (length bytes.old ≡ 2 * s.plan.n) × (length samples.old ≡ s.plan.n) × Runs c × (c.blocks < 1099511627776) }
     ensures { Runs result × (result.blocks ≤ c.blocks + 1) }
 {
-    let got = read_block(fd, c.left, bytes);
+    let got = read_block(rt, source, c.left, bytes);
     if got.count < bytes.len() {
         return closed(c, got.count, !got.failed);
     }
     let block = heard(
         s, stage, end, weights, bytes, samples, spectrum, scratch, sums,
     );
-    told_block(s, c, block)
+    told_block(rt, s, c, block)
 }
 
 // Reads the bytes of a block, or of so many samples where that is fewer.
-fn read_block(fd: i32, left: usize, bytes: &mut [u8]) -> Got
+fn read_block(rt: &HostRuntime, source: &mut Source, left: usize, bytes: &mut [u8]) -> Got
     ensures { result.count ≤ length bytes.old }
 {
     let n = bytes.len() / 2;
-    let got = fill(fd, bytes, 0, 2 * least(n, left));
+    let got = fill(source, bytes, 0, 2 * least(n, left));
     if got.failed {
-        fault(b"the input cannot be read", b"");
+        fault(rt, b"the input cannot be read", b"");
     }
     got
 }
@@ -453,19 +502,19 @@ fn heard(
 }
 
 // Tells a block that was heard.
-fn told_block(s: Setup, c: Course, block: Block) -> Course
+fn told_block(rt: &HostRuntime, s: Setup, c: Course, block: Block) -> Course
     requires { Ready s × Runs c × (c.blocks < 1099511627776) }
     ensures { Runs result × (result.blocks ≤ c.blocks + 1) }
 {
     let verdict = block.verdict;
-    if !is_accepted(verdict, b"a block cannot be heard") {
+    if !is_accepted(rt, verdict, b"a block cannot be heard") {
         return closed(c, 0, false);
     }
     let line: Text = block_line(milliseconds(s, c.blocks), s.full, block);
-    if !printed(line) {
+    if !printed(rt, line) {
         return closed(c, 0, false);
     }
-    tell_progress(s, c.blocks);
+    tell_progress(rt, s, c.blocks);
     let plan = s.plan;
     let decision = block.decision;
     Course {
@@ -505,46 +554,77 @@ fn milliseconds(s: Setup, blocks: usize) -> usize
 }
 
 // Tells now and then how many seconds were heard.
-fn tell_progress(s: Setup, blocks: usize)
+fn tell_progress(rt: &HostRuntime, s: Setup, blocks: usize)
     requires { Ready s × (blocks ≤ 1099511627776) }
 {
-    if s.progress < 0 {
-        return;
-    }
     if blocks % 64 == 0 {
-        io::write_all(s.progress, b"\rlisten: ");
-        io::print_decimal(s.progress, (milliseconds(s, blocks) / 1000) as u64);
-        io::write_all(s.progress, b" seconds heard");
+        let seconds = milliseconds(s, blocks) / 1000;
+        match s.progress {
+            Progress::Nowhere => {}
+            Progress::Launcher => {
+                if let Ok(mut file) = launcher(rt) {
+                    tell_seconds(&mut file, seconds);
+                }
+            }
+            Progress::Errors => tell_seconds(&mut rt.stderr(), seconds),
+        }
     }
 }
 
+// Tells how many seconds were heard.
+fn tell_seconds<W: Write>(to: &mut W, seconds: usize) {
+    let _ = write!(to, "\rlisten: {seconds} seconds heard");
+}
+
+// Wipes what was told of progress.
+fn wipe_progress(rt: &HostRuntime, s: Setup) {
+    match s.progress {
+        Progress::Nowhere => {}
+        Progress::Launcher => {
+            if let Ok(mut file) = launcher(rt) {
+                wipe(&mut file);
+            }
+        }
+        Progress::Errors => wipe(&mut rt.stderr()),
+    }
+}
+
+// Wipes a line.
+fn wipe<W: Write>(to: &mut W) {
+    let _ = to.write_all(b"\r                                        \r");
+}
+
 // Tells what is left, the whole and its spectrum, and whether a file was as long as it says, if all went well.
-fn finish(fd: i32, start: Start, s: Setup, c: Course, sums: &[f64])
+fn finish(rt: &HostRuntime, source: &mut Source, start: Start, s: Setup, c: Course, sums: &[f64])
     requires { Ready s × Runs c × (length sums.now ≤ 3361) }
 {
-    if s.progress >= 0 {
-        io::write_all(s.progress, b"\r                                        \r");
-    }
+    wipe_progress(rt, s);
     if !c.is_well {
         return;
     }
     if c.last > 1 {
-        if !printed(left_line(milliseconds(s, c.blocks), c.last / 2)) {
+        if !printed(rt, left_line(milliseconds(s, c.blocks), c.last / 2)) {
             return;
         }
     }
-    if !printed(whole_line(c.blocks, c.fanning)) {
+    if !printed(rt, whole_line(c.blocks, c.fanning)) {
         return;
     }
     if s.plot {
         let plan = s.plan;
-        draw(sums, c.blocks, plan.n, s.rate, s.lo, s.hi, s.full);
+        draw(rt, sums, c.blocks, plan.n, s.rate, s.lo, s.hi, s.full);
     }
-    measured(fd, start, s.is_stream, 2 * samples_in(s, c.blocks) + c.last);
+    measured(
+        rt,
+        source,
+        start,
+        s.is_stream,
+        2 * samples_in(s, c.blocks) + c.last,
+    );
 }
 
 // Holds the bytes that came of a WAV file's samples against what it says.
-fn measured(fd: i32, start: Start, is_stream: bool, heard: usize)
+fn measured(rt: &HostRuntime, source: &mut Source, start: Start, is_stream: bool, heard: usize)
     requires { heard ≤ 14777436277322880 }
 {
     if start.total == 0 {
@@ -555,11 +635,16 @@ fn measured(fd: i32, start: Start, is_stream: bool, heard: usize)
     }
     let came = start.at + heard;
     if is_stream {
-        cut_or_whole(start.total, came + skip(fd, 4611686018427387904).count);
+        cut_or_whole(
+            rt,
+            start.total,
+            came + skip(source, 4611686018427387904).count,
+        );
         return;
     }
     if heard / 2 < start.samples {
         refused(
+            rt,
             17,
             came,
             b"the file ended while it was heard: copy it again, whole",
@@ -568,9 +653,10 @@ fn measured(fd: i32, start: Start, is_stream: bool, heard: usize)
 }
 
 // Holds the bytes that came of a stream against what its RIFF size says.
-fn cut_or_whole(total: usize, came: usize) {
+fn cut_or_whole(rt: &HostRuntime, total: usize, came: usize) {
     if came != total {
         refused_with(
+            rt,
             17,
             4,
             b"the RIFF size says ",

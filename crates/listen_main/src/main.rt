@@ -11,35 +11,34 @@ mod drawing;
 mod hearing;
 
 use listen_input::inner::options::Options;
-use listen_input::inner::source::Start;
+use listen_input::inner::source::{Source, Start};
 use listen_input::inner::{options, source};
 
-fn main() {
-    let chosen = options::chosen();
+fn main(rt: HostRuntime) {
+    let chosen = options::chosen(&rt);
     if chosen.is_right {
-        begin(chosen);
+        begin(&rt, chosen);
     }
 }
 
 // Opens what is to be heard, and hears it.
-fn begin(chosen: Options) {
-    let fd = options::opened(chosen);
-    if fd < 0 {
+fn begin(rt: &HostRuntime, chosen: Options) {
+    let Some(mut source) = options::opened(rt, chosen) else {
         return;
-    }
-    let start = start_of(fd, chosen);
+    };
+    let start = start_of(rt, &mut source, chosen);
     if start.rate == 0 {
         return;
     }
     if start.rate <= 192000 {
-        hearing::prepare(fd, chosen, start);
+        hearing::prepare(rt, &mut source, chosen, start);
     }
 }
 
 // Where the samples begin.
-fn start_of(fd: i32, chosen: Options) -> Start {
+fn start_of(rt: &HostRuntime, source: &mut Source, chosen: Options) -> Start {
     if chosen.raw > 0 {
         return source::bare(chosen.raw);
     }
-    source::found(fd, chosen.is_stream)
+    source::found(rt, source, chosen.is_stream)
 }

@@ -10,7 +10,6 @@ use Rattle.radices.proofs.Products.{Radical, radix_least, product_positive}
 use Rattle.merging.proofs.Merging.{both}
 use Rattle.merging.proofs.Weights.{radical_sorted}
 use Rattle.plan.proofs.Records.{InOrder, in_order_lem, Sized, well_sized, order_fits}
-use Rattle.halving.specs.Half.{half}
 
 -- an entry of a list of radices is a radix
 radical_at : (xs : List ℕ) (j : ℕ) → Radical xs → j < length xs → is_radix (get_or xs j 0) ≡ true

@@ -1,5 +1,5 @@
 -- Laws of products of radices: lists of radices only, their least and largest products, and the product by exponents. Assumes nothing.
-use Rattle.sequences.proofs.Basics.{◌≡◌, refl, sym, ap, ◌∙◌, ℕ, zero, suc, ◌+◌, ◌*◌, ◌^◌, ◌<◌, ◌≤◌, ◌-◌, one-mul, mul-one, mul_assoc, mul-le-mul}
+use Rattle.sequences.proofs.Basics.{◌≡◌, refl, sym, ap, ◌∙◌, ℕ, zero, suc, ◌+◌, ◌*◌, ◌^◌, ◌<◌, ◌≤◌, one-mul, mul-one, mul_assoc, mul-le-mul}
 use Rattle.sequences.proofs.Basics.{mul-le-mul_left, mul-pos, pow-zero, pow-suc, pow-succ', lt_of_not-le, le_antisymm, arith, dec_le, Bool, true, false, cond}
 use Rattle.sequences.proofs.Basics.{not, ◌||◌, false≢true, ◌⊎◌, inl, inr, dite, List, [], ◌∷◌, ◌++◌, eqb, ltb, length, replicate, pow-add, pow-lt, eqb-true}
 use Rattle.sequences.proofs.Basics.{le-ltb, ltb-false}

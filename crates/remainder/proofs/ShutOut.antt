@@ -9,7 +9,7 @@ use Rattle.plan.specs.Record.{is_planned, in_order, sized}
 use Rattle.plan.specs.declared.Record.{Record}
 use Rattle.schedule.specs.Plans.{in_use}
 use Rattle.remainder.specs.Calls.{Lent, Stages, Runs, first_large}
-use Rattle.residues.specs.Residues.{cells, Under}
+use Rattle.residues.specs.Residues.{Under}
 use Rattle.remainder.specs.Sums.{sum, transform, block_sum}
 use Rattle.remainder.proofs.Verdicts.{none_large}
 use Rattle.remainder.proofs.Theorems.{chain_blocks, run_transforms}

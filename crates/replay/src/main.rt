@@ -7,9 +7,12 @@ mod spectra;
 
 ghost use Rattle.std.specs.Prelude.{◌+◌, ◌≤◌, ◌<◌};
 
-use libc::STDOUT_FILENO;
 use recorded::inner::text::read_line;
 use recorded::inner::{places, plans};
+use std::env::FillError;
+use std::io::{BufReader, Print, Read};
+use std::rt::{Env, Files};
+use std::{fs, io};
 
 // Which answers a file records: half lists, where twiddles stand, by a checksum and place by place, the steps at the ends
 // alone, and inverse transforms by the unguarded core.
@@ -42,52 +45,72 @@ struct Tally {
 // How many records of one file are read at most.
 const MOST: u64 = 1000000;
 
-fn main() {
-    replay(Kind::Halves, b"halves", b"planning", 1);
-    replay(Kind::Layouts, b"layouts", b"layouts", 2);
-    replay(Kind::Places, b"places", b"places", 3);
-    replay(Kind::Ends, b"ends", b"ends", 4);
-    replay(Kind::Inverses, b"inverses", b"inverse", 5);
+fn main(rt: HostRuntime) {
+    replay(&rt, Kind::Halves, "halves", "planning", 1);
+    replay(&rt, Kind::Layouts, "layouts", "layouts", 2);
+    replay(&rt, Kind::Places, "places", "places", 3);
+    replay(&rt, Kind::Ends, "ends", "ends", 4);
+    replay(&rt, Kind::Inverses, "inverses", "inverse", 5);
 }
 
 // Replays the file that the argument at a place names, or where there are no arguments the one so named, and writes how it went.
-fn replay(kind: Kind, name: &[u8], file: &[u8], place: usize) {
-    let fd = opened(file, place);
-    let tally = tallied(kind, name, fd);
-    libc::close(fd);
+fn replay<R: Files + Env + Print + Alloc>(
+    rt: &R,
+    kind: Kind,
+    name: &str,
+    file: &str,
+    place: usize,
+) {
+    let tally = match opened(rt, file, place) {
+        Ok(mut from) => tallied(rt, kind, name, &mut from),
+        Err(_) => none(),
+    };
     if tally.is_whole && tally.answers > 0 {
-        told(name, b" ", tally.answers, b" answers, ");
-        told(b"", b"", tally.differ, b" differ\n");
+        told(rt, name, " ", tally.answers, " answers, ");
+        told(rt, "", "", tally.differ, " differ\n");
     } else {
         told(
+            rt,
             name,
-            b": the file is not there, is cut or has no record, after ",
+            ": the file is not there, is cut or has no record, after ",
             tally.answers,
-            b" answers\n",
+            " answers\n",
         );
     }
 }
 
-// Opens a file.
-fn opened(file: &[u8], place: usize) -> i32 {
-    if os::arg_count() > 1 {
-        let mut path = io::buffer();
-        let length = os::arg(place, &mut path);
-        return os::open_read(&path[..length]);
+// Opens a file, whose bytes are read many at a time.
+fn opened<R: Files + Env + Alloc>(
+    rt: &R,
+    file: &str,
+    place: usize,
+) -> io::Result<BufReader<R::File, R::A>> {
+    let mut path = [0u8; 4096];
+    if let Err(FillError::NotPresent) = rt.arg(1, &mut path) {
+        return BufReader::new(rt.alloc(), fs::open(rt, file)?);
     }
-    os::open_read(file)
+    let length = rt.arg(place, &mut path).unwrap_or(0);
+    let name = str::from_utf8(&path[..length]).unwrap_or("");
+    BufReader::new(rt.alloc(), fs::open(rt, name)?)
 }
 
 // Writes a name, a number and what stands around it.
-fn told(name: &[u8], before: &[u8], number: u64, after: &[u8]) {
-    io::write_all(STDOUT_FILENO, name);
-    io::write_all(STDOUT_FILENO, before);
-    io::print_decimal(STDOUT_FILENO, number);
-    io::write_all(STDOUT_FILENO, after);
+fn told<R: Print>(rt: &R, name: &str, before: &str, number: u64, after: &str) {
+    let _ = print!(rt; "{name}{before}{number}{after}");
+}
+
+// The tally of a file with no record.
+fn none() -> Tally {
+    Tally {
+        answers: 0,
+        differ: 0,
+        is_open: false,
+        is_whole: false,
+    }
 }
 
 // Reads a file to its end and counts.
-fn tallied(kind: Kind, name: &[u8], fd: i32) -> Tally {
+fn tallied<P: Print, R: Read>(rt: &P, kind: Kind, name: &str, from: &mut R) -> Tally {
     let mut tally = Tally {
         answers: 0,
         differ: 0,
@@ -96,21 +119,28 @@ fn tallied(kind: Kind, name: &[u8], fd: i32) -> Tally {
     };
     let mut i: u64 = 0;
     while i < MOST && tally.is_open {
-        tally = next(kind, name, fd, tally, i);
+        tally = next(rt, kind, name, from, tally, i);
         i += 1;
     }
     tally
 }
 
 // The tally with the record after i others, or at the file's end.
-fn next(kind: Kind, name: &[u8], fd: i32, tally: Tally, i: u64) -> Tally
+fn next<P: Print, R: Read>(
+    rt: &P,
+    kind: Kind,
+    name: &str,
+    from: &mut R,
+    tally: Tally,
+    i: u64,
+) -> Tally
     requires { (i < 1000000) × (tally.answers ≤ 126000000) × (tally.differ ≤ 126000000) }
     ensures { (result.answers ≤ tally.answers + 126) × (result.differ ≤ tally.differ + 126) }
 {
     let shape = shaped(kind);
     let size = shape.size;
     let mut line = [0u8; 97];
-    let got = read_line(fd, &mut line, size);
+    let got = read_line(from, &mut line, size);
     if got < size {
         return Tally {
             answers: tally.answers,
@@ -119,9 +149,9 @@ fn next(kind: Kind, name: &[u8], fd: i32, tally: Tally, i: u64) -> Tally
             is_whole: got == 0,
         };
     }
-    let differ = differing(kind, line, fd);
+    let differ = differing(kind, line, from);
     if differ > 0 {
-        told(name, b" record ", i + 1, b" differs\n");
+        told(rt, name, " record ", i + 1, " differs\n");
     }
     Tally {
         answers: tally.answers + shape.answers,
@@ -160,14 +190,14 @@ fn shaped(kind: Kind) -> Shape
 }
 
 // How many answers of a record are not the library's.
-fn differing(kind: Kind, line: [u8; 97], fd: i32) -> u64
+fn differing<R: Read>(kind: Kind, line: [u8; 97], from: &mut R) -> u64
     ensures { result ≤ 126 }
 {
     match kind {
         Kind::Halves => plans::half_differs(line),
         Kind::Layouts => places::layout_differs(line),
-        Kind::Places => places::places_differ(line, fd),
-        Kind::Ends => spectra::ends_differ(line, fd),
-        Kind::Inverses => spectra::inverses_differ(line, fd),
+        Kind::Places => places::places_differ(line, from),
+        Kind::Ends => spectra::ends_differ(line, from),
+        Kind::Inverses => spectra::inverses_differ(line, from),
     }
 }

@@ -12,6 +12,7 @@ use recorded::inner::places::pack;
 use recorded::inner::plans::asked;
 use recorded::inner::text::{number, read_line};
 use recorded::inner::words::{fill, read, summed};
+use std::io::Read;
 use transform::inner::directions::inverse;
 
 // How many cases a length has.
@@ -25,7 +26,7 @@ fn room() -> [f32; 49184]
 }
 
 // How many answers of a record of the steps at an end are not the library's.
-pub fn ends_differ(line: [u8; 97], fd: i32) -> u64
+pub fn ends_differ<R: Read>(line: [u8; 97], from: &mut R) -> u64
     ensures { result ≤ 126 }
 {
     let question = asked(&line[0..16]);
@@ -33,14 +34,14 @@ pub fn ends_differ(line: [u8; 97], fd: i32) -> u64
         return CASES;
     }
     match line[17] {
-        b'F' => differing(question.plan, false, true, 2 * question.ends, fd),
-        b'I' => differing(question.plan, false, false, 2 * question.ends, fd),
+        b'F' => differing(question.plan, false, true, 2 * question.ends, from),
+        b'I' => differing(question.plan, false, false, 2 * question.ends, from),
         _ => CASES,
     }
 }
 
 // How many answers of a record of inverse transforms are not the library's.
-pub fn inverses_differ(line: [u8; 97], fd: i32) -> u64
+pub fn inverses_differ<R: Read>(line: [u8; 97], from: &mut R) -> u64
     ensures { result ≤ 126 }
 {
     let question = asked(&line[0..16]);
@@ -54,13 +55,19 @@ pub fn inverses_differ(line: [u8; 97], fd: i32) -> u64
         true,
         false,
         2 * (question.stages + question.ends),
-        fd,
+        from,
     )
 }
 
 // How many answers of the lines that follow, of whole transforms or of a step alone, are not the library's, which is lent so many words
 // of twiddles.
-fn differing(plan: Record, is_whole: bool, is_forward: bool, lent: usize, fd: i32) -> u64
+fn differing<R: Read>(
+    plan: Record,
+    is_whole: bool,
+    is_forward: bool,
+    lent: usize,
+    from: &mut R,
+) -> u64
     ensures { result ≤ 126 }
 {
     if lent > 49184 {
@@ -82,12 +89,12 @@ fn differing(plan: Record, is_whole: bool, is_forward: bool, lent: usize, fd: i3
         &mut input,
         &mut output,
         &mut scratch,
-        fd,
+        from,
     )
 }
 
 // The same, with room for the original's twiddles, for drawn ones and for those that are packed, and for the words of a transform.
-fn follow(
+fn follow<R: Read>(
     plan: Record,
     is_whole: bool,
     is_forward: bool,
@@ -97,16 +104,16 @@ fn follow(
     input: &mut [f32],
     output: &mut [f32],
     scratch: &mut [f32],
-    fd: i32,
+    from: &mut R,
 ) -> u64
     ensures { result ≤ 126 }
 {
-    let are_words = read(fd, own);
+    let are_words = read(from, own);
     let mut differ: u64 = 0;
     let mut k: u64 = 0;
     while k < CASES {
         differ += case(
-            plan, is_whole, is_forward, own, drawn, packed, input, output, scratch, fd,
+            plan, is_whole, is_forward, own, drawn, packed, input, output, scratch, from,
         );
         k += 1;
     }
@@ -115,7 +122,7 @@ fn follow(
 
 // How many answers of the next line are not the library's, which is lent the original's twiddles or some that are drawn from the line's
 // seed; a line that cannot be asked counts as one.
-fn case(
+fn case<R: Read>(
     plan: Record,
     is_whole: bool,
     is_forward: bool,
@@ -125,13 +132,13 @@ fn case(
     input: &mut [f32],
     output: &mut [f32],
     scratch: &mut [f32],
-    fd: i32,
+    from: &mut R,
 ) -> u64
     ensures { result ≤ 3 }
 {
     let size = if is_whole { 37 } else { 24 };
     let mut line = [0u8; 37];
-    if read_line(fd, &mut line, size) < size {
+    if read_line(from, &mut line, size) < size {
         return 1;
     }
     let seed = number(&line[4..12], true);

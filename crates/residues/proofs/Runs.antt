@@ -1,5 +1,5 @@
 -- Laws of a run: its stages find what they ask for, and leave h remainders. Assumes nothing.
-use Rattle.sequences.proofs.Basics.{◌≡◌, ap, ◌∙◌, ℕ, zero, suc, ◌-◌, ◌%◌, ◌<◌, ◌≤◌, le_of_lt, mod-lt, arith, true, List, eqb, length}
+use Rattle.sequences.proofs.Basics.{◌≡◌, ap, ◌∙◌, ℕ, zero, suc, ◌%◌, ◌<◌, ◌≤◌, le_of_lt, mod-lt, arith, true, List, eqb, length}
 use Rattle.sequences.proofs.Basics.{eq-eqb, ne_eqb}
 use Rattle.counts.specs.Counts.{radix, stride}
 use Rattle.plan.specs.Record.{is_planned}

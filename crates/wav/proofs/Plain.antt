@@ -1,7 +1,6 @@
 -- A plain file: the 44 bytes, then the samples. Its fields one by one; the walk over it; that a file of its length is one; and its bytes. Assumes nothing.
 use Rattle.sequences.proofs.Basics.{◌≡◌, refl, sym, ap, ap₂, ◌∙◌, ℕ, suc, ◌+◌, ◌-◌, ◌*◌, ◌/◌, ◌≤◌, ◌<◌, lit≤, arith, List, [], ◌++◌, length, length-append}
 use Rattle.sequences.proofs.Basics.{drop}
-use Rattle.refusal.specs.Refusal.{verdict}
 use Rattle.refusal.specs.declared.Verdict.{Verdict}
 use Rattle.refusal.specs.declared.Verdict.TheVariants.{Accepted}
 use Rattle.little.specs.Numbers.{number_at, Bytes, bytes_of}

@@ -1,5 +1,5 @@
 -- `counts::end_twiddles` meets its contract. Assumes nothing.
-use Rattle.sequences.proofs.Basics.{sym, arith, rules}
+use Rattle.sequences.proofs.Basics.{sym, arith}
 use Rattle.refusal.proofs.Rows.{accepted}
 use Rattle.counts.proofs.Counts.{record_refused, record_accepted}
 use Rattle.plan.proofs.Bounds.{plan_half, plan_sized}

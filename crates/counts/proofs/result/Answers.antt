@@ -1,5 +1,5 @@
 -- `counts::result` meets its contract. Assumes nothing.
-use Rattle.sequences.proofs.Basics.{sym, rules}
+use Rattle.sequences.proofs.Basics.{sym}
 use Rattle.refusal.proofs.Rows.{accepted}
 use Rattle.counts.proofs.Counts.{record_refused, record_accepted}
 use Rattle.counts.proofs.result.Goals as goal

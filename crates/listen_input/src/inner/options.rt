@@ -1,11 +1,14 @@
 // The words of the call.
 ghost use Rattle.std.specs.Prelude.{◌<◌};
 
-use crate::inner::source::least;
-use crate::inner::told::fault;
-use libc::{STDERR_FILENO, STDIN_FILENO};
+use crate::inner::source::{Source, least};
+use crate::inner::told::{fault, say};
 use listen_words::Number;
 use listen_words::inner::words::{is_same, level_of, number_of};
+use std::env::FillError;
+use std::fs::File;
+use std::rt::Env;
+use std::{fs, io};
 
 // What is to be heard, and how.
 #[derive(Clone, Copy)]
@@ -29,8 +32,19 @@ pub struct Options {
 // The most words that are read.
 const WORDS: usize = 64;
 
+// How many words the call has, the program's name among them, or 65 where there are more.
+fn word_count(rt: &HostRuntime) -> usize {
+    let mut nothing = [0u8; 0];
+    for i in 0..WORDS + 1 {
+        if let Err(FillError::NotPresent) = rt.arg(i, &mut nothing) {
+            return i;
+        }
+    }
+    WORDS + 1
+}
+
 // The words of the call, with what is wrong with them told.
-pub fn chosen() -> Options {
+pub fn chosen(rt: &HostRuntime) -> Options {
     let mut o = Options {
         file: 0,
         block: 1680,
@@ -43,38 +57,37 @@ pub fn chosen() -> Options {
         is_right: true,
         took: 0,
     };
-    let count = os::arg_count();
+    let count = word_count(rt);
     if count > WORDS {
-        return wrong(o, b"there are too many words", b"");
+        return wrong(rt, o, b"there are too many words", b"");
     }
     let mut i: usize = 1;
     while i < count {
-        o = with_word(o, i);
+        o = with_word(rt, o, i);
         if !o.is_right {
             return o;
         }
         i += 1 + least(o.took, 2);
     }
     if o.file == 0 {
-        return wrong(o, b"which file? - is standard input", b"");
+        return wrong(rt, o, b"which file? - is standard input", b"");
     }
     o
 }
 
 // The options with a word and what belongs to it.
-fn with_word(o: Options, i: usize) -> Options
+fn with_word(rt: &HostRuntime, o: Options, i: usize) -> Options
     requires { i < 64 }
 {
-    let mut word = io::buffer();
-    let length = os::arg(i, &mut word);
-    if os::errno() != 0 {
-        return wrong(o, b"a word is too long", b"");
-    }
-    with_named(o, i, &word[..length])
+    let mut word = [0u8; 4096];
+    let Ok(length) = rt.arg(i, &mut word) else {
+        return wrong(rt, o, b"a word is too long", b"");
+    };
+    with_named(rt, o, i, &word[..length])
 }
 
 // The same, of the word itself.
-fn with_named(o: Options, i: usize, word: &[u8]) -> Options
+fn with_named(rt: &HostRuntime, o: Options, i: usize, word: &[u8]) -> Options
     requires { i < 64 }
 {
     let mut p = o;
@@ -84,38 +97,39 @@ fn with_named(o: Options, i: usize, word: &[u8]) -> Options
         return p;
     }
     if is_same(word, b"--block") {
-        return with_block(p, number_at(i + 1));
+        return with_block(rt, p, number_at(rt, i + 1));
     }
     if is_same(word, b"--raw") {
-        return with_raw(p, number_at(i + 1));
+        return with_raw(rt, p, number_at(rt, i + 1));
     }
     if is_same(word, b"--band") {
-        return with_band(p, number_at(i + 1), number_at(i + 2));
+        return with_band(rt, p, number_at(rt, i + 1), number_at(rt, i + 2));
     }
     if is_same(word, b"--threshold") {
-        return with_level(p, level_at(i + 1));
+        return with_level(rt, p, level_at(rt, i + 1));
     }
-    with_file(p, i, word)
+    with_file(rt, p, i, word)
 }
 
 // The number of a word.
-fn number_at(i: usize) -> Number {
-    let mut word = io::buffer();
-    let length = os::arg(i, &mut word);
+fn number_at(rt: &HostRuntime, i: usize) -> Number {
+    let mut word = [0u8; 4096];
+    let length = rt.arg(i, &mut word).unwrap_or(0);
     number_of(&word[..length])
 }
 
 // The level of a word.
-fn level_at(i: usize) -> Number {
-    let mut word = io::buffer();
-    let length = os::arg(i, &mut word);
+fn level_at(rt: &HostRuntime, i: usize) -> Number {
+    let mut word = [0u8; 4096];
+    let length = rt.arg(i, &mut word).unwrap_or(0);
     level_of(&word[..length])
 }
 
 // The options with a length of blocks.
-fn with_block(o: Options, n: Number) -> Options {
+fn with_block(rt: &HostRuntime, o: Options, n: Number) -> Options {
     if !n.known {
         return wrong(
+            rt,
             o,
             b"--block wants a number of samples, as in --block 1680",
             b"",
@@ -128,15 +142,20 @@ fn with_block(o: Options, n: Number) -> Options {
 }
 
 // The options with a rate of bare samples.
-fn with_raw(o: Options, n: Number) -> Options {
+fn with_raw(rt: &HostRuntime, o: Options, n: Number) -> Options {
     if !n.known {
-        return wrong(o, b"--raw wants samples a second, as in --raw 16000", b"");
+        return wrong(
+            rt,
+            o,
+            b"--raw wants samples a second, as in --raw 16000",
+            b"",
+        );
     }
     if n.value == 0 {
-        return wrong(o, b"--raw wants 1 to 192000 samples a second", b"");
+        return wrong(rt, o, b"--raw wants 1 to 192000 samples a second", b"");
     }
     if n.value > 192000 {
-        return wrong(o, b"--raw wants 1 to 192000 samples a second", b"");
+        return wrong(rt, o, b"--raw wants 1 to 192000 samples a second", b"");
     }
     let mut p = o;
     p.raw = n.value;
@@ -145,9 +164,10 @@ fn with_raw(o: Options, n: Number) -> Options {
 }
 
 // The options with a band.
-fn with_band(o: Options, lo: Number, hi: Number) -> Options {
+fn with_band(rt: &HostRuntime, o: Options, lo: Number, hi: Number) -> Options {
     if !lo.known {
         return wrong(
+            rt,
             o,
             b"--band wants two numbers of hertz, as in --band 200 300",
             b"",
@@ -155,6 +175,7 @@ fn with_band(o: Options, lo: Number, hi: Number) -> Options {
     }
     if !hi.known {
         return wrong(
+            rt,
             o,
             b"--band wants two numbers of hertz, as in --band 200 300",
             b"",
@@ -168,9 +189,10 @@ fn with_band(o: Options, lo: Number, hi: Number) -> Options {
 }
 
 // The options with a threshold.
-fn with_level(o: Options, n: Number) -> Options {
+fn with_level(rt: &HostRuntime, o: Options, n: Number) -> Options {
     if !n.known {
         return wrong(
+            rt,
             o,
             b"--threshold wants decibels with at most one decimal, as in --threshold -30.1",
             b"",
@@ -183,13 +205,13 @@ fn with_level(o: Options, n: Number) -> Options {
 }
 
 // The options with a file.
-fn with_file(o: Options, i: usize, word: &[u8]) -> Options {
+fn with_file(rt: &HostRuntime, o: Options, i: usize, word: &[u8]) -> Options {
     let is_stream = is_same(word, b"-");
     if !is_stream && is_option(word) {
-        return wrong(o, b"there is no option ", word);
+        return wrong(rt, o, b"there is no option ", word);
     }
     if o.file > 0 {
-        return wrong(o, b"one file at a time, and not also ", word);
+        return wrong(rt, o, b"one file at a time, and not also ", word);
     }
     let mut p = o;
     p.file = i;
@@ -206,10 +228,10 @@ fn is_option(word: &[u8]) -> bool {
 }
 
 // The options as words that are wrong, with what is wrong told, and how to call.
-fn wrong(o: Options, what: &[u8], word: &[u8]) -> Options {
-    fault(what, word);
-    io::write_all(
-        STDERR_FILENO,
+fn wrong(rt: &HostRuntime, o: Options, what: &[u8], word: &[u8]) -> Options {
+    fault(rt, what, word);
+    say(
+        rt,
         b"usage: ladlespindle listen FILE [--block N] [--band LO HI] [--threshold DB] [--raw RATE] [--plot]\n",
     );
     let mut p = o;
@@ -217,17 +239,41 @@ fn wrong(o: Options, what: &[u8], word: &[u8]) -> Options {
     p
 }
 
-// Opens the file, or answers a negative number, and says why it cannot.
-pub fn opened(o: Options) -> i32 {
+// Opens the file, or says why it cannot.
+pub fn opened(rt: &HostRuntime, o: Options) -> Option<Source> {
     if o.is_stream {
-        return STDIN_FILENO;
+        return Some(Source::Stream(rt.stdin()));
     }
-    let mut path = io::buffer();
-    let length = os::arg(o.file, &mut path);
-    let fd = os::open_read(&path[..length]);
-    if fd < 0 {
-        io::write_all(STDERR_FILENO, b"listen: cannot open ");
-        os::fail(&path[..length]);
+    let mut path = [0u8; 4096];
+    let length = rt.arg(o.file, &mut path).unwrap_or(0);
+    match file_at(rt, &path[..length]) {
+        Ok(file) => Some(Source::Named(file)),
+        Err(why) => {
+            say(rt, b"listen: cannot open ");
+            say(rt, &path[..length]);
+            say(rt, b": ");
+            say_why(rt, why);
+            say(rt, b"\n");
+            None
+        }
     }
-    fd
+}
+
+// Opens the file that a word names, which has to be text.
+fn file_at(rt: &HostRuntime, path: &[u8]) -> io::Result<File> {
+    match str::from_utf8(path) {
+        Ok(name) => fs::open(rt, name),
+        Err(_) => Err(io::Error::other("the name is no UTF-8")),
+    }
+}
+
+// Says an error's text, without the number that the system gives it.
+fn say_why(rt: &HostRuntime, why: io::Error) {
+    let Ok(text) = format!(in rt.alloc(); "{why}") else {
+        return;
+    };
+    match text.split_once(" (os error ") {
+        Some((words, _)) => say(rt, words.as_bytes()),
+        None => say(rt, text.as_bytes()),
+    }
 }

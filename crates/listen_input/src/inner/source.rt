@@ -5,6 +5,25 @@ use crate::inner::told::{fault, refused};
 use chunks::inner::walk::{Walk, begin, step};
 use little::inner::numbers::four;
 use refusal::Verdict;
+use std::fs::File;
+use std::io;
+use std::io::{Read, Seek, SeekFrom, Stdin};
+
+// What is read: standard input, or a file that was opened.
+#[derive(Drop)]
+pub enum Source {
+    Stream(Stdin),
+    Named(File),
+}
+
+impl Read for Source {
+    fn read(&mut self, buffer: &mut [u8]) -> io::Result<usize> {
+        match self {
+            Source::Stream(input) => input.read(buffer),
+            Source::Named(file) => file.read(buffer),
+        }
+    }
+}
 
 // Where the samples begin: their rate, 0 where there are none to hear and it has been told why; how many there are; how many bytes have been
 // read, and how many there are in all, 0 where nothing says so.
@@ -48,28 +67,25 @@ fn nothing() -> Start {
 }
 
 // Nothing to hear, since a read failed.
-fn unread() -> Start {
-    fault(b"the input cannot be read", b"");
+fn unread(rt: &HostRuntime) -> Start {
+    fault(rt, b"the input cannot be read", b"");
     nothing()
 }
 
 // Reads into a buffer from one place up to another, until it is full there, the input ends or a read fails.
-pub fn fill(fd: i32, buffer: &mut [u8], from: usize, to: usize) -> Got
+pub fn fill(source: &mut Source, buffer: &mut [u8], from: usize, to: usize) -> Got
     requires { (from ≤ to) × (to ≤ length buffer.old) }
     ensures { result.count ≤ to - from }
 {
     let mut done = from;
     while done < to {
-        let rest: &mut [u8] = &mut buffer[done..to];
-        let got = libc::read(fd, rest);
-        if got < 0 {
+        let Ok(more) = source.read(&mut buffer[done..to]) else {
             return Got {
                 count: done - from,
                 whole: false,
                 failed: true,
             };
-        }
-        let more = io::count(got, rest);
+        };
         if more == 0 {
             return Got {
                 count: done - from,
@@ -97,12 +113,12 @@ pub fn least(a: usize, b: usize) -> usize
 }
 
 // Reads so many bytes, or all that there are, and keeps none.
-pub fn skip(fd: i32, count: usize) -> Got
+pub fn skip(source: &mut Source, count: usize) -> Got
     ensures { result.count ≤ count }
 {
     let mut done: usize = 0;
     while done < count {
-        let got = skip_some(fd, count - done);
+        let got = skip_some(source, count - done);
         if got.count == 0 {
             return Got {
                 count: done,
@@ -120,37 +136,49 @@ pub fn skip(fd: i32, count: usize) -> Got
 }
 
 // Reads so many bytes, 4,096 at most, and keeps none.
-fn skip_some(fd: i32, count: usize) -> Got
+fn skip_some(source: &mut Source, count: usize) -> Got
     ensures { result.count ≤ count }
 {
-    let mut room = io::buffer();
-    fill(fd, &mut room, 0, least(count, 4096))
+    let mut room = [0u8; 4096];
+    fill(source, &mut room, 0, least(count, 4096))
 }
 
 // How many bytes a file has, and 0 where that cannot be told.
-fn size_of(fd: i32) -> usize
+fn size_of(source: &mut Source) -> usize
     ensures { result ≤ 9223372036854775807 }
 {
-    let end = libc::lseek(fd, 0, 2);
-    if end < 0 {
+    match source {
+        Source::Stream(_) => 0,
+        Source::Named(file) => length_by_seeking(file),
+    }
+}
+
+// The same of a file, which stands at its start again.
+fn length_by_seeking(file: &mut File) -> usize
+    ensures { result ≤ 9223372036854775807 }
+{
+    let Ok(end) = file.seek(SeekFrom::End(0)) else {
+        return 0;
+    };
+    if end > 9223372036854775807 {
         return 0;
     }
-    if libc::lseek(fd, 0, 0) != 0 {
-        return 0;
+    match file.seek(SeekFrom::Start(0)) {
+        Ok(0) => end as usize,
+        _ => 0,
     }
-    end as usize
 }
 
 // Walks to the samples of a WAV file. A stream is taken to be as long as its RIFF size says.
-pub fn found(fd: i32, is_stream: bool) -> Start {
+pub fn found(rt: &HostRuntime, source: &mut Source, is_stream: bool) -> Start {
     let mut mark = [0u8; 24];
     let mut size: usize = 0;
     if !is_stream {
-        size = size_of(fd);
+        size = size_of(source);
     }
-    let got = fill(fd, &mut mark, 0, 12);
+    let got = fill(source, &mut mark, 0, 12);
     if got.failed {
-        return unread();
+        return unread(rt);
     }
     let mut total = size;
     if size == 0 {
@@ -158,9 +186,9 @@ pub fn found(fd: i32, is_stream: bool) -> Start {
     }
     let w = begin(&mark, total);
     if w.more {
-        return walked(fd, total);
+        return walked(rt, source, total);
     }
-    told(w, 0, total);
+    told(rt, w, 0, total);
     nothing()
 }
 
@@ -176,31 +204,31 @@ fn length_of(mark: &[u8], came: usize) -> usize
 }
 
 // Walks over the chunks behind the mark.
-fn walked(fd: i32, total: usize) -> Start
+fn walked(rt: &HostRuntime, source: &mut Source, total: usize) -> Start
     requires { 12 ≤ total }
 {
     let mut at: usize = 12;
     let mut rate: u32 = 0;
     loop {
         let mut window = [0u8; 24];
-        let got = shown(fd, &mut window, rate, total - at);
+        let got = shown(source, &mut window, rate, total - at);
         if got.failed {
-            return unread();
+            return unread(rt);
         }
         if !got.whole {
-            return ended(at + got.count);
+            return ended(rt, at + got.count);
         }
         let w = step(&window, at, rate, total);
         if !w.more {
-            return at_samples(w, at, total);
+            return at_samples(rt, w, at, total);
         }
         let read = at + got.count;
-        let passed = skip(fd, w.at - least(w.at, read));
+        let passed = skip(source, w.at - least(w.at, read));
         if passed.failed {
-            return unread();
+            return unread(rt);
         }
         if !passed.whole {
-            return ended(read + passed.count);
+            return ended(rt, read + passed.count);
         }
         at = w.at;
         rate = w.rate;
@@ -208,18 +236,18 @@ fn walked(fd: i32, total: usize) -> Start
 }
 
 // Nothing to hear, since the file ends early.
-fn ended(place: usize) -> Start {
-    refused(17, place, b"the file ends early: copy it again, whole");
+fn ended(rt: &HostRuntime, place: usize) -> Start {
+    refused(rt, 17, place, b"the file ends early: copy it again, whole");
     nothing()
 }
 
 // Reads what a chunk begins with, of which so many bytes are left: its name and size, and the fields of the first format.
-fn shown(fd: i32, window: &mut [u8], rate: u32, left: usize) -> Got
+fn shown(source: &mut Source, window: &mut [u8], rate: u32, left: usize) -> Got
     requires { length window.old ≡ 24 }
     ensures { (result.count ≤ 24) × (result.count ≤ left) }
 {
     let first = least(left, 8);
-    let got = fill(fd, window, 0, first);
+    let got = fill(source, window, 0, first);
     if first < 8 {
         return got;
     }
@@ -233,7 +261,7 @@ fn shown(fd: i32, window: &mut [u8], rate: u32, left: usize) -> Got
         return got;
     }
     let all = least(left, 24);
-    let more = fill(fd, window, 8, all);
+    let more = fill(source, window, 8, all);
     Got {
         count: 8 + more.count,
         whole: more.whole,
@@ -242,7 +270,7 @@ fn shown(fd: i32, window: &mut [u8], rate: u32, left: usize) -> Got
 }
 
 // Where the walk ended: the samples, or why there are none.
-fn at_samples(w: Walk, at: usize, total: usize) -> Start {
+fn at_samples(rt: &HostRuntime, w: Walk, at: usize, total: usize) -> Start {
     let verdict = w.verdict;
     match verdict {
         Verdict::Accepted => Start {
@@ -252,42 +280,50 @@ fn at_samples(w: Walk, at: usize, total: usize) -> Start {
             total,
         },
         Verdict::Refused(_) => {
-            told(w, at, total);
+            told(rt, w, at, total);
             nothing()
         }
     }
 }
 
 // Says why a file of so many bytes is refused, at the chunk that begins at a place.
-fn told(w: Walk, at: usize, total: usize) {
+fn told(rt: &HostRuntime, w: Walk, at: usize, total: usize) {
     let verdict = w.verdict;
     let number = verdict.number() as usize;
     let place = verdict.place();
     if place >= total {
-        refused(number, place, b"the file ends early: copy it again, whole");
+        refused(
+            rt,
+            number,
+            place,
+            b"the file ends early: copy it again, whole",
+        );
     } else if at == 0 {
-        of_mark(number, place);
+        of_mark(rt, number, place);
     } else if place < at {
-        refused(number, place, b"this is no WAV file that can be read");
+        refused(rt, number, place, b"this is no WAV file that can be read");
     } else {
-        of_chunk(number, place, place - at);
+        of_chunk(rt, number, place, place - at);
     }
 }
 
 // What is wrong with a file's mark.
-fn of_mark(number: usize, place: usize) {
+fn of_mark(rt: &HostRuntime, number: usize, place: usize) {
     match place {
         0 => refused(
+            rt,
             number,
             place,
             b"this is no WAV file, since it does not begin with RIFF: bare samples are heard with --raw RATE",
         ),
         4 => refused(
+            rt,
             number,
             place,
             b"the file is cut, or has bytes behind its end: its RIFF size is not its length; copy it again, whole",
         ),
         _ => refused(
+            rt,
             number,
             place,
             b"this is no WAV file, though it begins with RIFF",
@@ -296,34 +332,40 @@ fn of_mark(number: usize, place: usize) {
 }
 
 // What is wrong with a chunk, by the field.
-fn of_chunk(number: usize, place: usize, field: usize) {
+fn of_chunk(rt: &HostRuntime, number: usize, place: usize, field: usize) {
     match field {
         0 => refused(
+            rt,
             number,
             place,
             b"the samples stand before their format: save the file anew",
         ),
         4 => refused(
+            rt,
             number,
             place,
             b"a size is none of plain samples of 16 bits: save the file as plain PCM",
         ),
         8 => refused(
+            rt,
             number,
             place,
             b"the samples are no plain PCM: save the file as that",
         ),
         10 => refused(
+            rt,
             number,
             place,
             b"there is more than one channel, or none: save the file with one",
         ),
         12 => refused(
+            rt,
             number,
             place,
             b"the rate is not from 1 to 192,000 samples a second: save the file with such a rate",
         ),
         _ => refused(
+            rt,
             number,
             place,
             b"the samples do not have 16 bits: save the file with 16, in one channel",

@@ -1,24 +1,35 @@
 // What is said on standard error, and lines on standard output.
-use libc::{STDERR_FILENO, STDOUT_FILENO};
+use std::io::Print;
 use text::Text;
 
+// Bytes on standard error, where that can be written.
+pub fn say(rt: &HostRuntime, bytes: &[u8]) {
+    let _ = rt.stderr().write_all(bytes);
+}
+
+// A number on standard error.
+pub fn say_number(rt: &HostRuntime, number: usize) {
+    let _ = rt.stderr().print(number);
+}
+
 // A sentence that ends in a word.
-pub fn fault(what: &[u8], word: &[u8]) {
-    io::write_all(STDERR_FILENO, b"listen: ");
-    io::write_all(STDERR_FILENO, what);
-    io::write_all(STDERR_FILENO, word);
-    io::write_all(STDERR_FILENO, b"\n");
+pub fn fault(rt: &HostRuntime, what: &[u8], word: &[u8]) {
+    say(rt, b"listen: ");
+    say(rt, what);
+    say(rt, word);
+    say(rt, b"\n");
 }
 
 // The sentence of a refusal: its number, its place, and what is to be done.
-pub fn refused(number: usize, place: usize, what: &[u8]) {
-    began(number, place);
-    io::write_all(STDERR_FILENO, what);
-    io::write_all(STDERR_FILENO, b"\n");
+pub fn refused(rt: &HostRuntime, number: usize, place: usize, what: &[u8]) {
+    began(rt, number, place);
+    say(rt, what);
+    say(rt, b"\n");
 }
 
 // The same, with two numbers in what it says.
 pub fn refused_with(
+    rt: &HostRuntime,
     number: usize,
     place: usize,
     before: &[u8],
@@ -27,38 +38,38 @@ pub fn refused_with(
     b: usize,
     after: &[u8],
 ) {
-    began(number, place);
-    io::write_all(STDERR_FILENO, before);
-    io::print_decimal(STDERR_FILENO, a as u64);
-    io::write_all(STDERR_FILENO, between);
-    io::print_decimal(STDERR_FILENO, b as u64);
-    io::write_all(STDERR_FILENO, after);
+    began(rt, number, place);
+    say(rt, before);
+    say_number(rt, a);
+    say(rt, between);
+    say_number(rt, b);
+    say(rt, after);
 }
 
 // How such a sentence begins.
-fn began(number: usize, place: usize) {
-    io::write_all(STDERR_FILENO, b"listen: refused ");
-    io::print_decimal(STDERR_FILENO, number as u64);
-    io::write_all(STDERR_FILENO, b" at ");
-    io::print_decimal(STDERR_FILENO, place as u64);
-    io::write_all(STDERR_FILENO, b": ");
+fn began(rt: &HostRuntime, number: usize, place: usize) {
+    say(rt, b"listen: refused ");
+    say_number(rt, number);
+    say(rt, b" at ");
+    say_number(rt, place);
+    say(rt, b": ");
 }
 
 // Prints a line, and answers whether that could be done.
-pub fn printed(line: Text) -> bool {
+pub fn printed(rt: &HostRuntime, line: Text) -> bool {
     let bytes = line.bytes;
-    if is_written(&bytes, line.len) {
+    if is_written(rt, &bytes, line.len) {
         return true;
     }
-    fault(b"standard output cannot be written", b"");
+    fault(rt, b"standard output cannot be written", b"");
     false
 }
 
 // Writes so many of a line's bytes, and answers whether that could be done.
-fn is_written(bytes: &[u8; 256], length: usize) -> bool {
+fn is_written(rt: &HostRuntime, bytes: &[u8; 256], length: usize) -> bool {
     let all: &[u8] = bytes;
     if length > all.len() {
         return false;
     }
-    io::write_all(STDOUT_FILENO, &all[0..length])
+    rt.write_all(&all[0..length]).is_ok()
 }

@@ -49,6 +49,7 @@ pub fn counts_of(list: &[u8]) -> Tally
 }
 
 // The first rule that applies.
+#[tactic(auto, using(crate::proofs::Merging::a_needs), unfolding(crate::specs::Merging::first_rule, crate::specs::Merging::applies))]
 pub fn first_rule(t: Tally) -> Rule
     ensures { result ≡ first_rule t }
 {

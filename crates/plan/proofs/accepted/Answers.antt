@@ -1,5 +1,5 @@
 -- `plan::accepted` meets its contract. Assumes nothing.
-use Rattle.sequences.proofs.Basics.{sym, length-take-le, rules}
+use Rattle.sequences.proofs.Basics.{sym, length-take-le}
 use Rattle.plan.proofs.Records.{good_few, accepted_good}
 use Rattle.plan.proofs.Planning.{half_fits, half_total, merged_total, answer_made}
 use Rattle.plan.proofs.accepted.Goals as goal

@@ -1,5 +1,5 @@
 -- `plan::accepts` meets its contract. Assumes nothing.
-use Rattle.sequences.proofs.Basics.{sym, ◌∙◌, rules}
+use Rattle.sequences.proofs.Basics.{sym, ◌∙◌}
 use Rattle.plan.proofs.Records.{passes_plannable, plannable_passes}
 use Rattle.plan.proofs.accepts.Goals as goal
 

@@ -1,6 +1,5 @@
 -- `plan::plan` meets its contract. Assumes nothing.
-use Rattle.sequences.proofs.Basics.{◌≡◌, sym, ◌%◌, rules}
-use Rattle.refusal.specs.declared.Verdict.TheVariants.{Accepted}
+use Rattle.sequences.proofs.Basics.{◌≡◌, sym, ◌%◌}
 use Rattle.refusal.proofs.Rows.{deciding}
 use Rattle.radices.specs.Lists.{product}
 use Rattle.plan.specs.Record.{plan_verdict}

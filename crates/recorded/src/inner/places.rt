@@ -2,11 +2,12 @@
 ghost use Rattle.std.specs.Prelude.{◌≡◌, ◌≤◌, length};
 
 use crate::inner::plans::asked;
-use crate::inner::text::number;
+use crate::inner::text::{number, read_full};
 use crate::inner::words::mixed;
 use floats::inner::words::paste;
 use packing::inner::places::place;
 use plan::Record;
+use std::io::Read;
 
 // No place: more than any stage has.
 const NOWHERE: usize = 99999;
@@ -127,7 +128,7 @@ pub fn layout_differs(line: [u8; 97]) -> u64
 }
 
 // The same by the lines that follow, each with the iteration and the number of the twiddle at the next place, and all read.
-pub fn places_differ(line: [u8; 97], fd: i32) -> u64
+pub fn places_differ<R: Read>(line: [u8; 97], from: &mut R) -> u64
     ensures { result ≤ 1 }
 {
     let question = asked(&line[0..16]);
@@ -138,7 +139,7 @@ pub fn places_differ(line: [u8; 97], fd: i32) -> u64
     let mut are_same = plan.n > 0 && number(&line[19..24], false) == count;
     let mut passed: usize = 0;
     while passed < count {
-        if !follows(t, width, passed, fd) {
+        if !follows(t, width, passed, from) {
             are_same = false;
         }
         passed += 1;
@@ -148,9 +149,9 @@ pub fn places_differ(line: [u8; 97], fd: i32) -> u64
 }
 
 // Whether the next line names the twiddle of a stage that stands at the next place.
-fn follows(t: Twiddle, width: usize, passed: usize, fd: i32) -> bool {
+fn follows<R: Read>(t: Twiddle, width: usize, passed: usize, from: &mut R) -> bool {
     let mut line = [0u8; 7];
-    let got = io::read_full(fd, &mut line);
+    let got = read_full(from, &mut line);
     let i = number(&line[0..4], false);
     let k = number(&line[5..6], false);
     let at = standing(t.m, t.r, width, i, k);

@@ -1,6 +1,7 @@
 // The lines of a record, and their columns: lists and numbers.
-ghost use Rattle.std.specs.Prelude.{◌≤◌};
-ghost use Rattle.io.specs.Counts.{IsPrefixLen};
+ghost use Rattle.std.specs.Prelude.{◌≡◌, ◌≤◌, length, take};
+
+use std::io::Read;
 
 // A lent list: how many bytes it has, and the bytes.
 #[derive(Clone, Copy)]
@@ -14,7 +15,7 @@ pub const NONE: usize = 100000000000000;
 
 // Reads a line of so many bytes into the first of others, and answers how many it read: 0 at the file's end, and fewer than it has where
 // the file ends within it or it does not end there.
-pub fn read_line(fd: i32, line: &mut [u8], size: usize) -> usize
+pub fn read_line<R: Read>(from: &mut R, line: &mut [u8], size: usize) -> usize
     ensures { result ≤ size }
 {
     if size == 0 {
@@ -23,7 +24,7 @@ pub fn read_line(fd: i32, line: &mut [u8], size: usize) -> usize
     if size > line.len() {
         return 0;
     }
-    let got = io::read_full(fd, &mut line[..size]);
+    let got = read_full(from, &mut line[..size]);
     if got < size {
         return got;
     }
@@ -33,9 +34,26 @@ pub fn read_line(fd: i32, line: &mut [u8], size: usize) -> usize
     size
 }
 
+// Reads until a row is full, the input ends or a read fails, and answers how many bytes it put at the row's start.
+pub fn read_full<R: Read>(from: &mut R, row: &mut [u8]) -> usize
+    ensures { result ≤ length row.new }
+{
+    let mut done: usize = 0;
+    while done < row.len() {
+        let Ok(more) = from.read(&mut row[done..]) else {
+            return done;
+        };
+        if more == 0 {
+            return done;
+        }
+        done += more;
+    }
+    done
+}
+
 // The list that a column holds, up to the first place with no entry.
 pub fn lent(text: &[u8]) -> List
-    ensures { IsPrefixLen result.count result.bytes }
+    ensures { (result.count ≤ length result.bytes) × (result.count ≡ length (take result.count result.bytes)) }
 {
     let mut bytes = [0u8; 16];
     let mut i = 0;

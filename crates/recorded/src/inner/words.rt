@@ -1,7 +1,8 @@
 // Rows of words: read from lines of nine bytes, drawn from a seed as the oracle draws them, and summed.
 ghost use Rattle.std.specs.Prelude.{◌≡◌, ◌<◌, length};
 
-use crate::inner::text::number;
+use crate::inner::text::{number, read_full};
+use std::io::Read;
 
 // The modulus of checksums and draws, a prime below 2^32.
 const MODULUS: usize = 4294967291;
@@ -13,14 +14,14 @@ const FACTOR: usize = 279470273;
 const FINE: u32 = 256;
 
 // Whether the next lines show words, which are read.
-pub fn read(fd: i32, words: &mut [f32]) -> bool
+pub fn read<R: Read>(from: &mut R, words: &mut [f32]) -> bool
     ensures { length words.new ≡ length words.old }
 {
     let mut are_words = true;
     let mut i: usize = 0;
     while i < words.len() {
         let mut line = [0u8; 9];
-        let got = io::read_full(fd, &mut line);
+        let got = read_full(from, &mut line);
         let word = number(&line[0..8], true);
         words[i] = float((word % 4294967296) as u32);
         if got < 9 || word > 4294967295 || line[8] != b'\n' {

@@ -1,5 +1,5 @@
 -- `remainder::stage` meets its contract. Assumes nothing.
-use Rattle.sequences.proofs.Basics.{sym, ◌∙◌, length, not-false, rules}
+use Rattle.sequences.proofs.Basics.{sym, ◌∙◌, length, rules}
 use Rattle.refusal.proofs.Rows.{deciding, settles_refused, settles_accepted}
 use Rattle.remainder.specs.Calls.{lent_verdict, stage_verdict}
 use Rattle.remainder.proofs.Verdicts.{taken}
@@ -16,16 +16,16 @@ returns-then-number-plan c = settles_refused _ _ _ _ (search deciding)
 pub work-requires : goal.work-requires
 unfolding lent_verdict stage_verdict
 work-requires c = let a = c.args in (
-          taken a.plan a.m a.w a.input.now (length a.other.now) (sym c.is_planned.ensures ∙ c.if-not-is_planned.false
-              (search rules)
-              (sym c.lent.ensures ∙ c.in-Accepted.is),
-          c.if-number-plan.false,
-        )
+  taken a.plan a.m a.w a.input.now (length a.other.now) (sym c.is_planned.ensures ∙ c.if-not-is_planned.false)
+      (search rules)
+      (sym c.lent.ensures ∙ c.in-Accepted.is),
+  c.if-number-plan.false,
+)
 
 pub returns-in-Accepted : goal.returns-in-Accepted
 unfolding lent_verdict stage_verdict
 returns-in-Accepted c = let told = sym c.in-Accepted.is ∙ c.lent.ensures in
-        settles_accepted _ _ _ _ (search (deciding, told)) c.work.ensures
+    settles_accepted _ _ _ _ (search (deciding, told)) c.work.ensures
 
 pub returns-in-Refused : goal.returns-in-Refused
 unfolding lent_verdict stage_verdict

@@ -1,5 +1,4 @@
 -- `lent` goes down the rows of a file to write. Assumes nothing.
-use Rattle.sequences.proofs.Basics.{rules}
 use Rattle.refusal.proofs.Rows.{deciding}
 use Rattle.wav.specs.Wav.{write_verdict}
 use Rattle.wav.proofs.lent.Goals as goal

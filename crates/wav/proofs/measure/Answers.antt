@@ -1,5 +1,5 @@
 -- `wav::measure` meets its contract. Assumes nothing.
-use Rattle.sequences.proofs.Basics.{refl, rules}
+use Rattle.sequences.proofs.Basics.{refl}
 use Rattle.wav.proofs.Calls.{measures}
 use Rattle.wav.proofs.measure.Goals as goal
 

@@ -1,5 +1,5 @@
 -- `wav::read` meets its contract. Assumes nothing.
-use Rattle.sequences.proofs.Basics.{arith, rules}
+use Rattle.sequences.proofs.Basics.{arith}
 use Rattle.wav.proofs.Calls.{walked_inside, reads_accepted, reads_short, reads_refused}
 use Rattle.wav.proofs.read.Goals as goal
 

@@ -1,5 +1,5 @@
 -- `wav::write` meets its contract. Assumes nothing.
-use Rattle.sequences.proofs.Basics.{sym, ap, ◌∙◌, arith, length, rules}
+use Rattle.sequences.proofs.Basics.{sym, ap, ◌∙◌, arith, length}
 use Rattle.refusal.proofs.Rows.{settles_accepted, settles_refused}
 use Rattle.wav.proofs.Calls.{write_told}
 use Rattle.wav.proofs.Files.{header_length, file_made}
@@ -14,7 +14,7 @@ lay-requires c = let a = c.args in let told = write_told a.rate a.samples.now _ 
 
 pub write_samples-requires : goal.write_samples-requires
 write_samples-requires c = let a = c.args in let told = write_told a.rate a.samples.now _ _ c.lent.ensures c.in-Accepted.is in
-    (omega (arith, told.1, c.lay.kept.1.0), told.2)
+    (omega (arith, told.1, c.lay.auto.file), told.2)
 
 pub returns-in-Accepted : goal.returns-in-Accepted
 returns-in-Accepted c = let a = c.args in let told = write_told a.rate a.samples.now _ _ c.lent.ensures c.in-Accepted.is in

@@ -1,5 +1,4 @@
 -- `begin` goes on after a file's mark, or ends. Assumes nothing.
-use Rattle.sequences.proofs.Basics.{rules}
 use Rattle.chunks.specs.Chunks.{begun}
 use Rattle.chunks.proofs.Going.{on_accepted, on_refused}
 use Rattle.chunks.proofs.inner.walk.begin.Goals as goal

@@ -1,5 +1,5 @@
 -- `first_format` goes on after a format with its rate, or ends. Assumes nothing.
-use Rattle.sequences.proofs.Basics.{ap, ◌∙◌, ◌+◌, arith, rules}
+use Rattle.sequences.proofs.Basics.{ap, ◌∙◌, ◌+◌, arith}
 use Rattle.chunks.specs.Chunks.{chunk_at, at_format}
 use Rattle.fields.proofs.Told.{format_told}
 use Rattle.chunks.proofs.Going.{on_accepted, on_refused}

@@ -1,5 +1,5 @@
 -- `samples` ends the walk where the samples are. Assumes nothing.
-use Rattle.sequences.proofs.Basics.{ap, ℕ, ◌+◌, ◌/◌, arith, rules}
+use Rattle.sequences.proofs.Basics.{ap, ℕ, ◌+◌, ◌/◌, arith}
 use Rattle.chunks.specs.Chunks.{samples_from, at_data}
 use Rattle.fields.proofs.Told.{data_told}
 use Rattle.chunks.proofs.Going.{on_accepted, on_refused}

@@ -1,5 +1,5 @@
 -- `skip` goes on after a chunk and its pad byte, or ends. Assumes nothing.
-use Rattle.sequences.proofs.Basics.{ap, ◌∙◌, ℕ, ◌+◌, arith, rules}
+use Rattle.sequences.proofs.Basics.{ap, ◌∙◌, ℕ, ◌+◌, arith}
 use Rattle.fields.specs.Fields.{padded}
 use Rattle.chunks.specs.Chunks.{chunk_at, at_other}
 use Rattle.fields.proofs.Told.{other_told}

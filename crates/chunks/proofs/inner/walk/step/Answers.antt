@@ -1,5 +1,5 @@
 -- `step` goes by a chunk's id. Assumes nothing.
-use Rattle.sequences.proofs.Basics.{sym, ◌∙◌, rules}
+use Rattle.sequences.proofs.Basics.{sym, ◌∙◌}
 use Rattle.little.specs.Numbers.{number_at}
 use Rattle.chunks.proofs.Steps.{step_short, step_data, step_format, step_other, step_second}
 use Rattle.chunks.proofs.inner.walk.step.Goals as goal

@@ -1,5 +1,5 @@
 -- `counts::inner::stages::end_count` meets its contract. Assumes nothing.
-use Rattle.sequences.proofs.Basics.{eq-eqb, ne_eqb, rules}
+use Rattle.sequences.proofs.Basics.{eq-eqb, ne_eqb}
 use Rattle.counts.specs.Counts.{end_count}
 use Rattle.counts.proofs.inner.stages.end_count.Goals as goal
 

@@ -1,8 +1,7 @@
 -- `counts::inner::stages::stride` meets its contract. Assumes nothing.
-use Rattle.sequences.proofs.Basics.{sym, ap, ◌∙◌, ◌≡◌, ℕ, ◌+◌, ◌*◌, ◌-◌, ◌≤◌, arith, true, get_or, rules}
+use Rattle.sequences.proofs.Basics.{sym, ap, ◌∙◌, ◌≡◌, ℕ, ◌+◌, ◌*◌, arith, get_or, rules}
 use Rattle.plan.proofs.Bounds.{plan_order, plan_radix_bounds}
 use Rattle.counts.proofs.Counts.{stride_next, stride_small, stride_none}
-use Rattle.plan.specs.Record.{is_planned}
 use Rattle.counts.specs.Counts.{stride as stride_of}
 use Rattle.counts.proofs.inner.stages.stride.Goals as goal
 

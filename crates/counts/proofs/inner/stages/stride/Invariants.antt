@@ -1,7 +1,5 @@
 -- `counts::inner::stages::stride` meets its contract. Assumes nothing.
-use Rattle.sequences.proofs.Basics.{sym, ap, ◌∙◌, ◌≡◌, ℕ, ◌+◌, ◌*◌, ◌-◌, ◌≤◌, arith, true, get_or, rules}
-use Rattle.plan.proofs.Bounds.{plan_order, plan_radix_bounds}
-use Rattle.counts.proofs.Counts.{stride_next, stride_small, stride_none}
+use Rattle.sequences.proofs.Basics.{◌≡◌, ◌-◌, ◌≤◌, true}
 use Rattle.plan.specs.Record.{is_planned}
 use Rattle.counts.specs.Counts.{stride as stride_of}
 use Rattle.counts.proofs.inner.stages.stride.Given as goal

@@ -1,7 +1,7 @@
 -- `counts::inner::stages::twiddle_count` meets its contract. Assumes nothing.
 use Rattle.plan.proofs.Bounds.{plan_order, plan_radix_bounds}
 use Rattle.counts.proofs.Counts.{count_later, count_small, count_first}
-use Rattle.sequences.proofs.Basics.{arith, rules}
+use Rattle.sequences.proofs.Basics.{arith}
 use Rattle.counts.proofs.inner.stages.twiddle_count.Goals as goal
 
 pub returns-then-j-eq0 : goal.returns-then-j-eq0

@@ -1,8 +1,7 @@
 -- `counts::inner::stages::twiddle_start` meets its contract. Assumes nothing.
-use Rattle.sequences.proofs.Basics.{ap, ◌∙◌, ◌≡◌, ◌-◌, ◌*◌, ◌≤◌, arith, true, rules}
+use Rattle.sequences.proofs.Basics.{ap, ◌∙◌, ◌≡◌, arith, rules}
 use Rattle.plan.proofs.Bounds.{plan_order}
 use Rattle.counts.proofs.Counts.{count_small, start_next, start_none}
-use Rattle.plan.specs.Record.{is_planned}
 use Rattle.counts.specs.Counts.{twiddle_start}
 use Rattle.counts.proofs.inner.stages.twiddle_start.Goals as goal
 

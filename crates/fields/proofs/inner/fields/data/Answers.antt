@@ -1,5 +1,4 @@
 -- `data` goes down the rows of a chunk of samples. Assumes nothing.
-use Rattle.sequences.proofs.Basics.{rules}
 use Rattle.refusal.proofs.Rows.{deciding}
 use Rattle.fields.proofs.Judging.{judging}
 use Rattle.fields.proofs.inner.fields.data.Goals as goal

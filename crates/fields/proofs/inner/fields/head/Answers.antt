@@ -1,5 +1,4 @@
 -- `head` goes down the rows of a file's mark. Assumes nothing.
-use Rattle.sequences.proofs.Basics.{rules}
 use Rattle.refusal.proofs.Rows.{deciding}
 use Rattle.little.specs.Numbers.{number_at}
 use Rattle.fields.proofs.Judging.{judging}

@@ -1,5 +1,4 @@
 -- `kind` goes down the rows of a format's kind. Assumes nothing.
-use Rattle.sequences.proofs.Basics.{rules}
 use Rattle.refusal.proofs.Rows.{deciding}
 use Rattle.fields.proofs.Judging.{judging}
 use Rattle.fields.proofs.inner.fields.kind.Goals as goal

@@ -1,5 +1,5 @@
 -- `other` goes down the rows of any other chunk. Assumes nothing.
-use Rattle.sequences.proofs.Basics.{arith, rules}
+use Rattle.sequences.proofs.Basics.{arith}
 use Rattle.refusal.proofs.Rows.{deciding}
 use Rattle.fields.proofs.Judging.{judging}
 use Rattle.fields.proofs.inner.fields.other.Goals as goal

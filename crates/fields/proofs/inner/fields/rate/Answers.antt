@@ -1,5 +1,5 @@
 -- `rate` goes down the rows of a format's rate. Assumes nothing.
-use Rattle.sequences.proofs.Basics.{arith, rules}
+use Rattle.sequences.proofs.Basics.{arith}
 use Rattle.refusal.proofs.Rows.{deciding}
 use Rattle.fields.proofs.Judging.{judging}
 use Rattle.fields.proofs.inner.fields.rate.Goals as goal

@@ -1,5 +1,5 @@
 -- `halving::inner::halving::which` meets its contract. Assumes nothing.
-use Rattle.sequences.proofs.Basics.{lt-ltb, le-ltb, rules}
+use Rattle.sequences.proofs.Basics.{lt-ltb, le-ltb}
 use Rattle.halving.specs.Half.{halving}
 use Rattle.halving.proofs.inner.halving.which.Goals as goal
 

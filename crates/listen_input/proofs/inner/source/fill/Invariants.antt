@@ -1,9 +1,9 @@
--- `fill` meets its contract: what was read lies within the part, and grows until a read brings nothing. Assumes nothing.
-use Rattle.sequences.proofs.Basics.{◌≡◌, ◌≤◌, ◌-◌, length, rules}
+-- `fill` meets its contract: what was read lies within the part, and grows until a read brings nothing.
+use Rattle.std.proofs.Common.{◌≤◌, ◌-◌}
 use Rattle.listen_input.proofs.inner.source.fill.Given as goal
 
 abbrev pub invariant-loop-done : goal.invariant-loop-done
-invariant-loop-done l = (length l.buffer ≡ length l.from) × (l.to ≤ l.done) × (l.done ≤ l.initial.buffer)
+invariant-loop-done l = (l.from ≤ l.done) × (l.done ≤ l.to)
 
 abbrev pub decreases-loop-done : goal.decreases-loop-done
-decreases-loop-done l = l.initial.buffer - l.done
+decreases-loop-done l = l.to - l.done

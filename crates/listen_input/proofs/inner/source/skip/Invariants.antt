@@ -1,5 +1,5 @@
--- `skip` meets its contract: no more is read than is to be, and each turn reads some, or is the last. Assumes nothing.
-use Rattle.sequences.proofs.Basics.{◌≤◌, ◌-◌, rules}
+-- `skip` meets its contract: no more is read than is to be, and each turn reads some, or is the last.
+use Rattle.std.proofs.Common.{◌≤◌, ◌-◌}
 use Rattle.listen_input.proofs.inner.source.skip.Given as goal
 
 abbrev pub invariant-loop-done : goal.invariant-loop-done

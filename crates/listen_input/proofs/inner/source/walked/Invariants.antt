@@ -1,6 +1,5 @@
--- `walked` is safe and ends: each chunk stands behind the one before, within the file. Assumes nothing.
-use Rattle.sequences.proofs.Basics.{◌≤◌, ◌-◌, arith, rules}
-use Rattle.listen_input.proofs.Walking.{goes_on}
+-- `walked` is safe and ends: each chunk stands behind the one before, within the file.
+use Rattle.std.proofs.Common.{◌≤◌, ◌-◌}
 use Rattle.listen_input.proofs.inner.source.walked.Given as goal
 
 abbrev pub invariant-loop-window : goal.invariant-loop-window

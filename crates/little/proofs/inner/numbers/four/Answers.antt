@@ -1,5 +1,5 @@
 -- `four` is the number of four bytes: that of two, and that of the two above them. Assumes nothing.
-use Rattle.sequences.proofs.Basics.{◌≡◌, ap, ℕ, ◌+◌, arith, get_or, rules}
+use Rattle.sequences.proofs.Basics.{◌≡◌, ap, ℕ, ◌+◌, arith, get_or}
 use Rattle.little.specs.Numbers.{number_at}
 use Rattle.little.proofs.inner.numbers.four.Goals as goal
 

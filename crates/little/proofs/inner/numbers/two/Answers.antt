@@ -1,5 +1,5 @@
 -- `two` is the number of two bytes, each below 256. Assumes nothing.
-use Rattle.sequences.proofs.Basics.{◌+◌, arith, rules}
+use Rattle.sequences.proofs.Basics.{◌+◌, arith}
 use Rattle.little.specs.Numbers.{number_at}
 use Rattle.little.proofs.inner.numbers.two.Goals as goal
 

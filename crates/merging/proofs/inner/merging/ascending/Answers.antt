@@ -1,6 +1,5 @@
 -- `merging::inner::merging::ascending` meets its contract. Assumes nothing.
 use Rattle.merging.proofs.Merging.{sorted_filled}
-use Rattle.sequences.proofs.Basics.{rules}
 use Rattle.merging.proofs.inner.merging.ascending.Goals as goal
 
 pub returns : goal.returns

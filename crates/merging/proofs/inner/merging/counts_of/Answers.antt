@@ -1,6 +1,5 @@
 -- `merging::inner::merging::counts_of` meets its contract. Assumes nothing.
 use Rattle.merging.proofs.Merging.{tally_is}
-use Rattle.sequences.proofs.Basics.{rules}
 use Rattle.merging.proofs.inner.merging.counts_of.Goals as goal
 
 pub returns : goal.returns

@@ -1,5 +1,5 @@
 -- `merging::inner::merging::merge` meets its contract. Assumes nothing.
-use Rattle.sequences.proofs.Basics.{sym, ap, rules}
+use Rattle.sequences.proofs.Basics.{sym, ap}
 use Rattle.merging.specs.Merging.{merge}
 use Rattle.merging.specs.declared.inner.merging.Rule.{Rule}
 use Rattle.merging.specs.declared.inner.merging.Rule.TheVariants.{A, B, C, D}

@@ -1,6 +1,6 @@
 -- `merging::inner::merging::merge_all` meets its contract. Assumes nothing.
-use Rattle.merging.proofs.Merging.{low, SoFar, so_far_none, so_far_again, so_far_fits, so_far_end}
-use Rattle.sequences.proofs.Basics.{arith, rules}
+use Rattle.merging.proofs.Merging.{so_far_none, so_far_again, so_far_fits, so_far_end}
+use Rattle.sequences.proofs.Basics.{arith}
 use Rattle.merging.proofs.inner.merging.merge_all.Goals as goal
 
 pub merging-init : goal.merging-init

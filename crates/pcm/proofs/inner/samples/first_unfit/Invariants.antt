@@ -1,9 +1,7 @@
 -- `pcm::inner::samples::first_unfit` meets its contract. Assumes nothing.
-use Rattle.sequences.proofs.Basics.{◌≡◌, sym, ap, ◌∙◌, ◌+◌, ◌-◌, ◌≤◌, zero-add, not, length, drop, not-true, not-false, rules}
-use lib.Ieee.{Float, nan}
+use Rattle.sequences.proofs.Basics.{◌≡◌, ◌+◌, ◌-◌, ◌≤◌, not, length, drop}
 use Rattle.sequences.specs.Lists.{first_that}
-use Rattle.sequences.proofs.First.{first_skip, first_here, first_none}
-use Rattle.pcm.specs.Samples.{fits, first_unfit}
+use Rattle.pcm.specs.Samples.{fits}
 use Rattle.pcm.proofs.inner.samples.first_unfit.Given as goal
 
 abbrev pub invariant-loop-i : goal.invariant-loop-i

@@ -1,5 +1,5 @@
 -- `pcm::inner::samples::read_samples` meets its contract. Assumes nothing.
-use Rattle.sequences.proofs.Basics.{◌≡◌, sym, ap, ◌∙◌, ℕ, ◌+◌, ◌*◌, ◌-◌, ◌<◌, ◌≤◌, arith, length, get_or, rules}
+use Rattle.sequences.proofs.Basics.{◌≡◌, sym, ap, ◌∙◌, ℕ, ◌+◌, ◌*◌, arith, length, rules}
 use lib.Ieee.{nan}
 use Rattle.sequences.proofs.Tables.{set_more, table_all}
 use Rattle.little.specs.Numbers.{number_at}

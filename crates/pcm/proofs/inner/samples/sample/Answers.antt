@@ -1,5 +1,5 @@
 -- `pcm::inner::samples::sample` meets its contract. Assumes nothing.
-use Rattle.sequences.proofs.Basics.{◌+◌, ◌%◌, arith, le→leb, rules}
+use Rattle.sequences.proofs.Basics.{◌+◌, ◌%◌, arith, le→leb}
 use lib.Ieee.{in_float}
 use Rattle.pcm.proofs.Constants.{scale_is}
 use Rattle.pcm.proofs.Steps.{read_is}

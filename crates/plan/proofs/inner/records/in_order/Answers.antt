@@ -1,5 +1,5 @@
 -- `plan::inner::records::in_order` meets its contract. Assumes nothing.
-use Rattle.sequences.proofs.Basics.{sym, ◌∙◌, arith, length-take-le, rules}
+use Rattle.sequences.proofs.Basics.{sym, ◌∙◌, arith, length-take-le}
 use Rattle.plan.proofs.Records.{order_long, counted_few, order_uncounted, order_low, order_same}
 use Rattle.plan.proofs.inner.records.in_order.Goals as goal
 

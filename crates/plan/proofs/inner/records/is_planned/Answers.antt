@@ -1,6 +1,6 @@
 -- `plan::inner::records::is_planned` meets its contract. Assumes nothing.
-use Rattle.sequences.proofs.Basics.{sym, ◌∙◌, arith, length-take-le, not-true, not-false, rules}
-use Rattle.plan.proofs.Records.{order_fits, planned_disordered, planned_large, planned_not_twice, planned_made, order_radical, in_order_lem}
+use Rattle.sequences.proofs.Basics.{sym, ◌∙◌, arith, length-take-le}
+use Rattle.plan.proofs.Records.{order_fits, planned_disordered, planned_large, planned_not_twice, planned_made, order_radical}
 use Rattle.plan.proofs.inner.records.is_planned.Goals as goal
 
 pub returns-then-not-in_order : goal.returns-then-not-in_order

@@ -1,5 +1,5 @@
 -- `plan::inner::records::makes` meets its contract. Assumes nothing.
-use Rattle.sequences.proofs.Basics.{ap, ℕ, eqb, rules}
+use Rattle.sequences.proofs.Basics.{ap, ℕ, eqb}
 use Rattle.plan.proofs.Records.{made_not}
 use Rattle.radices.proofs.Products.{running_early, running_through}
 use Rattle.plan.proofs.inner.records.makes.Goals as goal

@@ -1,6 +1,5 @@
 -- `plan::inner::records::same` meets its contract. Assumes nothing.
-use Rattle.sequences.proofs.Basics.{◌≡◌, refl, ◌-◌, ◌≤◌, arith, length, drop, rules}
-use Rattle.radices.specs.Lists.{eq_list}
+use Rattle.sequences.proofs.Basics.{refl, arith, rules}
 use Rattle.plan.proofs.Records.{same_next, same_not, same_end}
 use Rattle.plan.proofs.inner.records.same.Goals as goal
 

@@ -1,7 +1,6 @@
 -- `plan::inner::records::same` meets its contract. Assumes nothing.
-use Rattle.sequences.proofs.Basics.{◌≡◌, refl, ◌-◌, ◌≤◌, arith, length, drop, rules}
+use Rattle.sequences.proofs.Basics.{◌≡◌, ◌-◌, ◌≤◌, length, drop}
 use Rattle.radices.specs.Lists.{eq_list}
-use Rattle.plan.proofs.Records.{same_next, same_not, same_end}
 use Rattle.plan.proofs.inner.records.same.Given as goal
 
 abbrev pub invariant-loop-i : goal.invariant-loop-i

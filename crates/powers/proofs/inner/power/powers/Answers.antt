@@ -1,5 +1,5 @@
 -- `powers::inner::power::powers` meets its contract. Assumes nothing.
-use Rattle.sequences.proofs.Basics.{◌≡◌, refl, ◌∙◌, ℕ, ◌+◌, ◌-◌, ◌^◌, ◌%◌, ◌≤◌, ◌<◌, arith, length-set, length, get_or, rules}
+use Rattle.sequences.proofs.Basics.{◌≡◌, refl, ◌∙◌, ◌+◌, ◌-◌, arith, length-set}
 use Rattle.sequences.proofs.Tables.{set_more}
 use Rattle.powers.proofs.Powers.{power_none, next_power, product_fits, below_mod}
 use Rattle.powers.proofs.inner.power.powers.Goals as goal

@@ -1,7 +1,5 @@
 -- `powers::inner::power::powers` meets its contract. Assumes nothing.
-use Rattle.sequences.proofs.Basics.{◌≡◌, refl, ◌∙◌, ℕ, ◌+◌, ◌-◌, ◌^◌, ◌%◌, ◌≤◌, ◌<◌, arith, length-set, length, get_or, rules}
-use Rattle.sequences.proofs.Tables.{set_more}
-use Rattle.powers.proofs.Powers.{power_none, next_power, product_fits, below_mod}
+use Rattle.sequences.proofs.Basics.{◌≡◌, ℕ, ◌-◌, ◌^◌, ◌%◌, ◌≤◌, ◌<◌, length, get_or}
 use Rattle.powers.proofs.inner.power.powers.Given as goal
 
 abbrev pub invariant-loop-t : goal.invariant-loop-t

@@ -1,5 +1,5 @@
 -- `radices::inner::lists::copied` meets its contract. Assumes nothing.
-use Rattle.sequences.proofs.Basics.{◌≡◌, refl, ap, ◌∙◌, ℕ, ◌+◌, ◌-◌, ◌<◌, ◌≤◌, length, get_or, paste, paste-zero, rules}
+use Rattle.sequences.proofs.Basics.{◌≡◌, refl, ap, ◌∙◌, ℕ, ◌+◌, ◌<◌, length, get_or, paste, paste-zero, rules}
 use Rattle.sequences.proofs.Pasted.{paste_next}
 use Rattle.radices.proofs.inner.lists.copied.Goals as goal
 

@@ -1,6 +1,5 @@
 -- `radices::inner::lists::copied` meets its contract. Assumes nothing.
-use Rattle.sequences.proofs.Basics.{◌≡◌, refl, ap, ◌∙◌, ℕ, ◌+◌, ◌-◌, ◌<◌, ◌≤◌, length, get_or, paste, paste-zero, rules}
-use Rattle.sequences.proofs.Pasted.{paste_next}
+use Rattle.sequences.proofs.Basics.{◌≡◌, ◌+◌, ◌-◌, ◌≤◌, length, paste}
 use Rattle.radices.proofs.inner.lists.copied.Given as goal
 
 abbrev pub invariant-loop-i : goal.invariant-loop-i

@@ -1,6 +1,5 @@
 -- `radices::inner::lists::count_of` meets its contract. Assumes nothing.
-use Rattle.sequences.proofs.Basics.{◌≡◌, ◌+◌, ◌-◌, ◌≤◌, ⊎_elim, length, drop, rules}
-use Rattle.radices.specs.Lists.{count_of}
+use Rattle.sequences.proofs.Basics.{rules}
 use Rattle.radices.proofs.Lists.{count_hit, count_miss, count_end}
 use Rattle.radices.proofs.inner.lists.count_of.Goals as goal
 use Rattle.radices.proofs.inner.lists.count_of.Goals.{then-list-i, else-list-i}

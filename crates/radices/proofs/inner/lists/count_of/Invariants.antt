@@ -1,7 +1,6 @@
 -- `radices::inner::lists::count_of` meets its contract. Assumes nothing.
-use Rattle.sequences.proofs.Basics.{◌≡◌, ◌+◌, ◌-◌, ◌≤◌, ⊎_elim, length, drop, rules}
+use Rattle.sequences.proofs.Basics.{◌≡◌, ◌+◌, ◌-◌, ◌≤◌, length, drop}
 use Rattle.radices.specs.Lists.{count_of}
-use Rattle.radices.proofs.Lists.{count_hit, count_miss, count_end}
 use Rattle.radices.proofs.inner.lists.count_of.Given as goal
 
 abbrev pub invariant-loop-i : goal.invariant-loop-i

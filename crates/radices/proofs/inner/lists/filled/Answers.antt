@@ -1,5 +1,5 @@
 -- `radices::inner::lists::filled` meets its contract. Assumes nothing.
-use Rattle.sequences.proofs.Basics.{◌≡◌, ap, ◌∙◌, ℕ, ◌+◌, ◌-◌, ◌<◌, ◌≤◌, arith, length, replicate, length-replicate, get_or-replicate, paste, paste-zero, rules}
+use Rattle.sequences.proofs.Basics.{◌≡◌, ap, ◌∙◌, ℕ, ◌+◌, ◌<◌, arith, length, replicate, length-replicate, get_or-replicate, paste, paste-zero, rules}
 use Rattle.sequences.proofs.Pasted.{paste_next}
 use Rattle.radices.proofs.inner.lists.filled.Goals as goal
 

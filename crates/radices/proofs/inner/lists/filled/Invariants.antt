@@ -1,6 +1,5 @@
 -- `radices::inner::lists::filled` meets its contract. Assumes nothing.
-use Rattle.sequences.proofs.Basics.{◌≡◌, ap, ◌∙◌, ℕ, ◌+◌, ◌-◌, ◌<◌, ◌≤◌, arith, length, replicate, length-replicate, get_or-replicate, paste, paste-zero, rules}
-use Rattle.sequences.proofs.Pasted.{paste_next}
+use Rattle.sequences.proofs.Basics.{◌≡◌, ◌+◌, ◌-◌, ◌≤◌, length, replicate, paste}
 use Rattle.radices.proofs.inner.lists.filled.Given as goal
 
 abbrev pub invariant-loop-i : goal.invariant-loop-i

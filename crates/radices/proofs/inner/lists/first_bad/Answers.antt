@@ -1,7 +1,6 @@
 -- `radices::inner::lists::first_bad` meets its contract. Assumes nothing.
-use Rattle.sequences.proofs.Basics.{◌≡◌, sym, ap, ◌∙◌, ℕ, ◌+◌, ◌-◌, ◌≤◌, not, length, drop, rules}
+use Rattle.sequences.proofs.Basics.{sym, ap, ◌∙◌, ℕ, not, rules}
 use Rattle.radices.specs.Lists.{first_bad, is_radix}
-use Rattle.sequences.specs.Lists.{first_that}
 use Rattle.sequences.proofs.First.{first_skip, first_here, first_none}
 use Rattle.radices.proofs.inner.lists.first_bad.Goals as goal
 

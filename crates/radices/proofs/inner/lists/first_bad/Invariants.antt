@@ -1,8 +1,7 @@
 -- `radices::inner::lists::first_bad` meets its contract. Assumes nothing.
-use Rattle.sequences.proofs.Basics.{◌≡◌, sym, ap, ◌∙◌, ℕ, ◌+◌, ◌-◌, ◌≤◌, not, length, drop, rules}
-use Rattle.radices.specs.Lists.{first_bad, is_radix}
+use Rattle.sequences.proofs.Basics.{◌≡◌, ℕ, ◌+◌, ◌-◌, ◌≤◌, not, length, drop}
+use Rattle.radices.specs.Lists.{is_radix}
 use Rattle.sequences.specs.Lists.{first_that}
-use Rattle.sequences.proofs.First.{first_skip, first_here, first_none}
 use Rattle.radices.proofs.inner.lists.first_bad.Given as goal
 
 abbrev pub invariant-loop-i : goal.invariant-loop-i

@@ -1,7 +1,5 @@
 -- `radices::inner::lists::index_of` meets its contract. Assumes nothing.
-use Rattle.sequences.proofs.Basics.{sym, ◌≡◌, ℕ, ◌+◌, ◌-◌, ◌≤◌, eqb, length, drop, eq-eqb, ne_eqb, rules}
-use Rattle.sequences.proofs.First.{first_skip, first_here, first_none}
-use Rattle.radices.specs.Lists.{index_of}
+use Rattle.sequences.proofs.Basics.{◌≡◌, ℕ, ◌+◌, ◌-◌, ◌≤◌, eqb, length, drop}
 use Rattle.sequences.specs.Lists.{first_that}
 use Rattle.radices.proofs.inner.lists.index_of.Given as goal
 

@@ -1,5 +1,5 @@
--- `recorded::inner::places::layout_differs` meets its contract, and ends: the measure is how many twiddles are left. Assumes nothing.
-use Rattle.sequences.proofs.Basics.{◌-◌, ◌≤◌, rules}
+-- `recorded::inner::places::layout_differs` ends: the measure is how many twiddles are left.
+use Rattle.std.proofs.Common.{◌-◌, ◌≤◌}
 use Rattle.recorded.proofs.inner.places.layout_differs.Given as goal
 
 abbrev pub invariant-loop-passed : goal.invariant-loop-passed

@@ -1,5 +1,5 @@
--- `recorded::inner::plans::holds` is safe and ends: the measure is how many entries are left. Assumes nothing.
-use Rattle.sequences.proofs.Basics.{◌≡◌, ◌-◌, ◌≤◌, length, rules}
+-- `recorded::inner::plans::holds` ends: the measure is how many entries are left.
+use Rattle.std.proofs.Common.{◌≡◌, ◌-◌, ◌≤◌, length}
 use Rattle.recorded.proofs.inner.plans.holds.Given as goal
 
 abbrev pub invariant-loop-i : goal.invariant-loop-i

@@ -1,12 +1,13 @@
--- `recorded::inner::text::lent` is safe and ends, and its count lies within its array. The measure is how many places are left. Assumes nothing.
-use Rattle.sequences.proofs.Basics.{◌≡◌, ◌-◌, ◌≤◌, arith, length, length-take, rules}
+-- `recorded::inner::text::lent`: the first so many of an array's bytes are so many.
+use Rattle.std.proofs.Common.{sym, rules, arith}
+use Rattle.std.proofs.lemmas.List.{length-take-le}
 use Rattle.recorded.proofs.inner.text.lent.Goals as goal
 
 pub returns-else-text-i-ne46 : goal.returns-else-text-i-ne46
-returns-else-text-i-ne46 c = (omega arith, simp length-take (omega arith))
+returns-else-text-i-ne46 c = (omega arith, sym (length-take-le _ _ (omega arith)))
 
 pub returns-else-i-text : goal.returns-else-i-text
-returns-else-i-text c = (omega arith, simp length-take (omega arith))
+returns-else-i-text c = (omega arith, sym (length-take-le _ _ (omega arith)))
 
 pub returns-after-loop-i : goal.returns-after-loop-i
-returns-after-loop-i c = (omega arith, simp length-take (omega arith))
+returns-after-loop-i c = (omega arith, sym (length-take-le _ _ (omega arith)))

@@ -1,5 +1,5 @@
--- `recorded::inner::text::lent` is safe and ends, and its count lies within its array. The measure is how many places are left. Assumes nothing.
-use Rattle.sequences.proofs.Basics.{◌≡◌, ◌-◌, ◌≤◌, arith, length, length-take, rules}
+-- `recorded::inner::text::lent` ends, and its count lies within its array: the measure is how many places are left.
+use Rattle.std.proofs.Common.{◌≡◌, ◌-◌, ◌≤◌, length}
 use Rattle.recorded.proofs.inner.text.lent.Given as goal
 
 abbrev pub invariant-loop-i : goal.invariant-loop-i

@@ -1,5 +1,5 @@
--- `recorded::inner::text::number` meets its contract, and ends: the measure is how many characters are left. Assumes nothing.
-use Rattle.sequences.proofs.Basics.{◌-◌, ◌≤◌, length, rules}
+-- `recorded::inner::text::number` ends: the measure is how many characters are left.
+use Rattle.std.proofs.Common.{◌-◌, ◌≤◌, length}
 use Rattle.recorded.proofs.inner.text.number.Given as goal
 
 abbrev pub invariant-loop-i : goal.invariant-loop-i

@@ -1,6 +1,7 @@
--- `recorded::inner::words::bits` is safe: what equals itself is no NaN. Assumes nothing.
-use Rattle.sequences.proofs.Basics.{◌≡◌, false, not, true≢false, T, rules}
-use lib.Ieee.{Float, nan, inf, fin, is_nan, ne}
+-- `recorded::inner::words::bits` is safe: what equals itself is no NaN.
+use Rattle.std.proofs.Common.{◌≡◌, false, not, T}
+use Rattle.std.specs.Float.Ieee.{Float, nan, inf, fin, is_nan, ne}
+use Rattle.std.proofs.lemmas.Bool.{true≢false}
 use Rattle.recorded.proofs.inner.words.bits.Goals as goal
 
 equals_itself : (x : Float) → ne x x ≡ false → T (not (is_nan x))

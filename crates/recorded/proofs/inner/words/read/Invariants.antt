@@ -1,9 +1,9 @@
--- `recorded::inner::words::read` meets its contract, and ends: the measure is how many words are left. Assumes nothing.
-use Rattle.sequences.proofs.Basics.{◌≡◌, ◌-◌, ◌≤◌, length, rules}
+-- `recorded::inner::words::read` ends: the measure is how many words are left.
+use Rattle.std.proofs.Common.{◌-◌, ◌≤◌, length}
 use Rattle.recorded.proofs.inner.words.read.Given as goal
 
 abbrev pub invariant-loop-i : goal.invariant-loop-i
-invariant-loop-i l = (l.i ≤ length l.initial.words) × (length l.words ≡ length l.initial.words)
+invariant-loop-i g l = l.i ≤ length l.words
 
 abbrev pub decreases-loop-i : goal.decreases-loop-i
-decreases-loop-i l = length l.initial.words - l.i
+decreases-loop-i g l = length l.words - l.i

@@ -1,5 +1,5 @@
--- `recorded::inner::words::summed` meets its contract, and ends: the measure is how many words are left. Assumes nothing.
-use Rattle.sequences.proofs.Basics.{◌-◌, ◌≤◌, ◌<◌, length, rules}
+-- `recorded::inner::words::summed` ends: the measure is how many words are left.
+use Rattle.std.proofs.Common.{◌-◌, ◌≤◌, ◌<◌, length}
 use Rattle.recorded.proofs.inner.words.summed.Given as goal
 
 abbrev pub invariant-loop-i : goal.invariant-loop-i

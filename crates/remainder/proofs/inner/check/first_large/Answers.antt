@@ -1,6 +1,5 @@
 -- `remainder::inner::check::first_large` meets its contract. Assumes nothing.
-use Rattle.sequences.proofs.Basics.{◌≡◌, sym, ap, ℕ, ◌+◌, ◌-◌, ◌≤◌, Bool, not, ltb, length, drop, lt-ltb, le-ltb, rules}
-use Rattle.sequences.specs.Lists.{first_that}
+use Rattle.sequences.proofs.Basics.{sym, ap, ℕ, Bool, not, ltb, lt-ltb, le-ltb, rules}
 use Rattle.sequences.proofs.First.{first_skip, first_here, first_none}
 use Rattle.remainder.specs.Calls.{first_large}
 use Rattle.remainder.proofs.inner.check.first_large.Goals as goal

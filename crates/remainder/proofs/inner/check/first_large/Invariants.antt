@@ -1,8 +1,6 @@
 -- `remainder::inner::check::first_large` meets its contract. Assumes nothing.
-use Rattle.sequences.proofs.Basics.{◌≡◌, sym, ap, ℕ, ◌+◌, ◌-◌, ◌≤◌, Bool, not, ltb, length, drop, lt-ltb, le-ltb, rules}
+use Rattle.sequences.proofs.Basics.{◌≡◌, ℕ, ◌+◌, ◌-◌, ◌≤◌, not, ltb, length, drop}
 use Rattle.sequences.specs.Lists.{first_that}
-use Rattle.sequences.proofs.First.{first_skip, first_here, first_none}
-use Rattle.remainder.specs.Calls.{first_large}
 use Rattle.remainder.proofs.inner.check.first_large.Given as goal
 
 abbrev pub invariant-loop-i : goal.invariant-loop-i

@@ -1,5 +1,5 @@
 -- `remainder::inner::check::lent` meets its contract. Assumes nothing.
-use Rattle.sequences.proofs.Basics.{sym, ◌∙◌, rules}
+use Rattle.sequences.proofs.Basics.{sym, ◌∙◌}
 use Rattle.refusal.proofs.Rows.{deciding}
 use Rattle.remainder.specs.Calls.{lent_verdict}
 use Rattle.remainder.proofs.inner.check.lent.Goals as goal

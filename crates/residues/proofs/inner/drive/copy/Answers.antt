@@ -1,5 +1,5 @@
 -- `residues::inner::drive::copy` meets its contract. Assumes nothing.
-use Rattle.sequences.proofs.Basics.{◌≡◌, sym, ◌∙◌, ◌-◌, ◌≤◌, arith, length, length-set, get_or, rules, refl, ◌<◌, ℕ, ext_get_or}
+use Rattle.sequences.proofs.Basics.{sym, ◌∙◌, arith, length-set, get_or, refl, ext_get_or}
 use Rattle.sequences.proofs.Tables.{set_more}
 use Rattle.residues.proofs.inner.drive.copy.Goals as goal
 

@@ -1,6 +1,5 @@
 -- `residues::inner::drive::copy` meets its contract. Assumes nothing.
-use Rattle.sequences.proofs.Basics.{◌≡◌, sym, ◌∙◌, ◌-◌, ◌≤◌, arith, length, length-set, get_or, rules, refl, ◌<◌, ℕ, ext_get_or}
-use Rattle.sequences.proofs.Tables.{set_more}
+use Rattle.sequences.proofs.Basics.{◌≡◌, ◌-◌, ◌≤◌, length, get_or, ◌<◌, ℕ}
 use Rattle.residues.proofs.inner.drive.copy.Given as goal
 
 abbrev pub invariant-loop-i : goal.invariant-loop-i

@@ -1,31 +1,32 @@
 -- `residues::inner::drive::drive` meets its contract. Assumes nothing.
-use Rattle.sequences.proofs.Basics.{◌≡◌, refl, sym, ◌∙◌, ℕ, ◌-◌, ◌≤◌, arith, ⊎_elim, List, rules}
+use Rattle.sequences.proofs.Basics.{◌≡◌, refl, sym, ◌∙◌, ℕ, arith, List}
 use Rattle.schedule.specs.Buffers.{Two, alternated}
 use Rattle.schedule.proofs.Buffers.{even_next, odd_next}
 use Rattle.residues.specs.Residues.{stage_of}
-use Rattle.residues.proofs.Runs.{Left, as_long, even_workable, odd_workable}
+use Rattle.residues.proofs.Runs.{as_long, even_workable, odd_workable}
 use Rattle.residues.proofs.inner.drive.drive.Goals as goal
+use Rattle.residues.proofs.inner.drive.drive.Goals.{then-k-eq0, else-k-eq0}
 
 pub loop-k-init : goal.loop-k-init
 unfolding alternated
 loop-k-init c = (omega arith, (refl, refl))
 
 pub work-requires : goal.work-requires
-work-requires c = let s = c4.before.before.before in let l = c4.loop in
-    even_workable s.args.scratch.now s.pre l.«data» l.scratch l.k l.inv.1 c.before.before.before.loop-test.taken
-    c.before.before.if1.taken
+work-requires c = let l = c.loop-k in
+    even_workable c.args.scratch.now c.requires l.«data» l.scratch l.k l.invariant.1 c.loop-k-test.true c.if-k-eq0.true
 
 pub work-requires-else-k-eq0 : goal.work-requires-else-k-eq0
-work-requires-else-k-eq0 c = let s = c4.before.before.before in let l = c4.loop in
-    odd_workable s.args.scratch.now s.pre l.«data» l.scratch l.k l.inv.1 c.before.before.before.loop-test.taken
-    c.before.before.if1.left
+work-requires-else-k-eq0 c = let l = c.loop-k in
+    odd_workable c.args.scratch.now c.requires l.«data» l.scratch l.k l.invariant.1 c.loop-k-test.true c.if-k-eq0.false
 
 pub loop-k-preserved : goal.loop-k-preserved
 loop-k-preserved c = let a = c.args in let l = c.loop-k in let f : ℕ → List ℕ → List ℕ = λ j. stage_of a.plan j a.m a.w in
     let b : Two ℕ = (a.«data».now, a.scratch.now) in (
       omega (arith, c.loop-k-test.true),
-      ⊎_elim (λ e. even_next f b l.k l.«data» l.scratch _ _ e.0.taken l.invariant.1.0 e.6 (e.7 ∙ e.3.ensures))
-          (λ e. odd_next f b l.k l.«data» l.scratch _ _ e.0.left l.invariant.1.1 (e.6 ∙ e.3.ensures) e.7) c.if-k-eq0.branch,
+      elim c.if-k-eq0.branch [
+        | then-k-eq0 w ↦ even_next f b l.k l.«data» l.scratch _ _ w.if-k-eq0.true l.invariant.1.0 w.data-is (w.scratch-is ∙ w.work.ensures)
+        | else-k-eq0 w ↦ odd_next f b l.k l.«data» l.scratch _ _ w.if-k-eq0.false l.invariant.1.1 (w.data-is ∙ w.work-else-k-eq0.ensures) w.scratch-is
+      ],
     )
 
 pub shape_of-data : goal.shape_of-data
@@ -36,4 +37,4 @@ shape_of-scratch c = let l = c.loop-k in (as_long c.args.scratch.now c.requires 
 
 pub returns : goal.returns
 returns c = let l = c.loop-k in let e : l.k ≡ c.args.plan.count = omega (arith, l.invariant.0, c.loop-k-test.false) in
-    rw e at l.invariant.1
+    let both = rw e at l.invariant.1 in record { data_after = both.0; scratch_after = both.1 }

@@ -1,6 +1,5 @@
 -- `residues::inner::stage::cells` meets its contract. Assumes nothing.
-use Rattle.sequences.proofs.Basics.{◌≡◌, refl, ℕ, ◌+◌, ◌-◌, ◌*◌, ◌%◌, ◌^◌, ◌≤◌, ◌<◌, arith, get_or, length, length-set, rules}
-use Rattle.residues.specs.Parts.{read_of}
+use Rattle.sequences.proofs.Basics.{◌≡◌, refl, ◌+◌, ◌*◌, arith, length-set}
 use Rattle.powers.proofs.Powers.{power_one, next_power, below_mod, product_fits}
 use Rattle.residues.proofs.Iteration.{read_first, read_scaled}
 use Rattle.sequences.proofs.Tables.{set_more}

@@ -1,9 +1,6 @@
 -- `residues::inner::stage::cells` meets its contract. Assumes nothing.
-use Rattle.sequences.proofs.Basics.{◌≡◌, refl, ℕ, ◌+◌, ◌-◌, ◌*◌, ◌%◌, ◌^◌, ◌≤◌, ◌<◌, arith, get_or, length, length-set, rules}
+use Rattle.sequences.proofs.Basics.{◌≡◌, ℕ, ◌-◌, ◌%◌, ◌^◌, ◌≤◌, ◌<◌, get_or, length}
 use Rattle.residues.specs.Parts.{read_of}
-use Rattle.powers.proofs.Powers.{power_one, next_power, below_mod, product_fits}
-use Rattle.residues.proofs.Iteration.{read_first, read_scaled}
-use Rattle.sequences.proofs.Tables.{set_more}
 use Rattle.residues.proofs.inner.stage.cells.Given as goal
 
 abbrev pub invariant-loop-q : goal.invariant-loop-q

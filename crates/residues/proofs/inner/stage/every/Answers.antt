@@ -1,9 +1,6 @@
 -- `residues::inner::stage::every` meets its contract. Assumes nothing.
-use Rattle.sequences.proofs.Basics.{◌≡◌, refl, ◌∙◌, ◌+◌, ◌-◌, ◌*◌, ◌%◌, ◌≤◌, ◌<◌, arith, length, length-set, get_or-set_same, get_or-set_other, rules}
-use Rattle.schedule.specs.Parts.{Every}
+use Rattle.sequences.proofs.Basics.{refl, ◌∙◌, ◌+◌, ◌*◌, ◌<◌, arith, length, length-set, get_or-set_same, get_or-set_other}
 use Rattle.schedule.proofs.Fill.{every_none, every_next, every_end}
-use Rattle.residues.specs.Parts.{kernel_of, Spread}
-use Rattle.residues.specs.Residues.{cells}
 use Rattle.residues.proofs.Arms.{steps_apart}
 use Rattle.residues.proofs.inner.stage.every.Goals as goal
 

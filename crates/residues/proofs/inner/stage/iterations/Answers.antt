@@ -1,7 +1,6 @@
 -- `residues::inner::stage::iterations` meets its contract. Assumes nothing.
-use Rattle.sequences.proofs.Basics.{◌≡◌, refl, ◌∙◌, ◌-◌, ◌≤◌, arith, length}
-use Rattle.residues.specs.Parts.{output_of, Made}
-use Rattle.residues.proofs.Stage.{Standing, standing_first, standing_next, standing_block, width_few, block_few, one_asks, made_next}
+use Rattle.sequences.proofs.Basics.{◌≡◌, refl, ◌∙◌, arith}
+use Rattle.residues.proofs.Stage.{standing_first, standing_next, standing_block, width_few, block_few, one_asks, made_next}
 use Rattle.powers.proofs.Powers.{below_mod, product_fits}
 use Rattle.residues.proofs.inner.stage.iterations.Goals as goal
 
@@ -32,9 +31,9 @@ loop-i-smaller-then-k-s c = omega (arith, c.loop-i-test.true)
 pub loop-i-preserved-then-k-s : goal.loop-i-preserved-then-k-s
 loop-i-preserved-then-k-s c = let l = c.loop-i in let o = c.one in let a = c.args in let h = c.requires.0 in (
   omega (arith, c.loop-i-test.true),
-  o.kept.1.0 ∙ l.invariant.1,
+  o.auto.dst ∙ l.invariant.1,
   standing_block a.m a.step a.s a.r h.blocks.stride l.invariant.2 h.modulus.two c.if-k-s.true,
-  made_next h l.invariant.2 l.dst o.last.1.0 o.ensures l.invariant.3,
+  made_next h l.invariant.2 l.dst o.new.dst o.ensures l.invariant.3,
 )
 
 pub overflow_mul-v : goal.overflow_mul-v
@@ -49,9 +48,9 @@ loop-i-smaller c = omega (arith, c.loop-i-test.true)
 pub loop-i-preserved : goal.loop-i-preserved
 loop-i-preserved c = let l = c.loop-i in let o = c.one in let a = c.args in let h = c.requires.0 in (
   omega (arith, c.loop-i-test.true),
-  o.kept.1.0 ∙ l.invariant.1,
+  o.auto.dst ∙ l.invariant.1,
   standing_next a.m a.step a.s a.r h.blocks.stride l.invariant.2 c.if-k-s.false,
-  made_next h l.invariant.2 l.dst o.last.1.0 o.ensures l.invariant.3,
+  made_next h l.invariant.2 l.dst o.new.dst o.ensures l.invariant.3,
 )
 
 pub shape_of-dst : goal.shape_of-dst

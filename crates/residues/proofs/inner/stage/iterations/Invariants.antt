@@ -1,12 +1,13 @@
 -- `residues::inner::stage::iterations` meets its contract. Assumes nothing.
-use Rattle.sequences.proofs.Basics.{◌≡◌, refl, ◌∙◌, ◌-◌, ◌≤◌, arith, length}
+use Rattle.sequences.proofs.Basics.{◌≡◌, ◌-◌, ◌≤◌, length}
 use Rattle.residues.specs.Parts.{output_of, Made}
-use Rattle.residues.proofs.Stage.{Standing, standing_first, standing_next, standing_block, width_few, block_few, one_asks, made_next}
-use Rattle.powers.proofs.Powers.{below_mod, product_fits}
+use Rattle.residues.proofs.Stage.{Standing}
 use Rattle.residues.proofs.inner.stage.iterations.Given as goal
 
 abbrev pub invariant-loop-i : goal.invariant-loop-i
-invariant-loop-i l = (l.i ≤ l.step) × (length l.dst ≡ length l.s) × Standing l.width l.turns l.apart l.m l.i l.block l.k l.v × Made l.apart l.m (output_of l.width l.turns l.step l.apart l.m l.src l.r) l.dst l.i
+invariant-loop-i l =
+    (l.i ≤ l.apart) × (length l.dst ≡ length l.initial.dst) × Standing l.m l.step l.s l.r l.i l.block l.k l.v
+    × Made l.s l.r (output_of l.m l.step l.apart l.s l.r l.src l.turns) l.dst l.i
 
 abbrev pub decreases-loop-i : goal.decreases-loop-i
-decreases-loop-i l = l.step - l.i
+decreases-loop-i l = l.apart - l.i

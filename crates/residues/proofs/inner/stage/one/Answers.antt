@@ -1,5 +1,5 @@
 -- `residues::inner::stage::one` meets its contract. Assumes nothing.
-use Rattle.sequences.proofs.Basics.{arith, rules}
+use Rattle.sequences.proofs.Basics.{arith}
 use Rattle.residues.proofs.Arms.{arm_reads, arm_writes, arm_spread}
 use Rattle.residues.proofs.inner.stage.one.Goals as goal
 

@@ -1,8 +1,6 @@
 -- `residues::inner::stage::output` meets its contract. Assumes nothing.
-use Rattle.sequences.proofs.Basics.{◌≡◌, refl, ap, ◌∙◌, ◌+◌, ◌-◌, ◌≤◌, ◌<◌, mod-lt, arith, rules}
+use Rattle.sequences.proofs.Basics.{◌≡◌, refl, ap, ◌∙◌, ◌+◌, ◌-◌, mod-lt, arith}
 use Rattle.schedule.specs.Stage.{plain, total}
-use Rattle.residues.specs.Parts.{lent_by}
-use Rattle.residues.specs.Residues.{cells}
 use Rattle.residues.proofs.Iteration.{term_next, turn_lt, small_product}
 use Rattle.powers.proofs.Powers.{product_fits, sum_fits}
 use Rattle.residues.proofs.inner.stage.output.Goals as goal

@@ -1,10 +1,8 @@
 -- `residues::inner::stage::output` meets its contract. Assumes nothing.
-use Rattle.sequences.proofs.Basics.{◌≡◌, refl, ap, ◌∙◌, ◌+◌, ◌-◌, ◌≤◌, ◌<◌, mod-lt, arith, rules}
-use Rattle.schedule.specs.Stage.{plain, total}
+use Rattle.sequences.proofs.Basics.{◌≡◌, ◌-◌, ◌≤◌, ◌<◌}
+use Rattle.schedule.specs.Stage.{total}
 use Rattle.residues.specs.Parts.{lent_by}
 use Rattle.residues.specs.Residues.{cells}
-use Rattle.residues.proofs.Iteration.{term_next, turn_lt, small_product}
-use Rattle.powers.proofs.Powers.{product_fits, sum_fits}
 use Rattle.residues.proofs.inner.stage.output.Given as goal
 
 abbrev pub invariant-loop-q : goal.invariant-loop-q

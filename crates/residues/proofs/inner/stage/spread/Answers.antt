@@ -1,12 +1,12 @@
 -- `residues::inner::stage::spread` meets its contract. Assumes nothing.
-use Rattle.sequences.proofs.Basics.{arith, rules}
+use Rattle.sequences.proofs.Basics.{arith}
 use Rattle.schedule.proofs.Fill.{every_both}
 use Rattle.residues.proofs.Arms.{steps_apart}
 use Rattle.residues.proofs.inner.stage.spread.Goals as goal
 
 pub every-requires-2 : goal.every-requires-2
 every-requires-2 c = (
-  rw c.every.kept.1.1.0 c.requires.0,
+  rw c.every.auto.dst c.requires.0,
   c.requires.1,
   omega arith,
 )

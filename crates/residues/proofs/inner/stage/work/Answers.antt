@@ -1,5 +1,5 @@
 -- `residues::inner::stage::work` meets its contract. Assumes nothing.
-use Rattle.sequences.proofs.Basics.{◌<◌, arith, rules}
+use Rattle.sequences.proofs.Basics.{◌<◌, arith}
 use Rattle.plan.proofs.Bounds.{plan_order}
 use Rattle.schedule.proofs.Plans.{found_some, found_stride}
 use Rattle.residues.specs.Residues.{Under}
@@ -27,5 +27,5 @@ iterations-requires c = let two : 0 < c.args.m = omega (arith, c.requires.0.modu
     (rw c.stride-s.ensures staged, below_mod _ _ c.args.m c.power-step.ensures two)
 
 pub returns : goal.returns
-returns c = let e = c.stride-s.ensures in work_done c.args.plan c.args.j c.args.m c.args.w c.args.src.now _ c.requires.0 c.requires.1 _ _ _ c.iterations.last.1.0
-    (rw e at c.power-step.ensures) c.power-root.ensures c.powers-turns.ensures c.iterations.kept.1.0 (rw e at c.iterations.ensures)
+returns c = let e = c.stride-s.ensures in work_done c.args.plan c.args.j c.args.m c.args.w c.args.src.now _ c.requires.0 c.requires.1 _ _ _ c.iterations.new.dst
+    (rw e at c.power-step.ensures) c.power-root.ensures c.powers-turns.ensures c.iterations.auto.dst (rw e at c.iterations.ensures)

@@ -1,8 +1,9 @@
 -- `scan::inner::scan::all_within` meets its contract. Assumes nothing.
-use Rattle.sequences.proofs.Basics.{◌≡◌, sym, subst, ◌∙◌, ◌≤◌, ◌+◌, ◌-◌, arith, true, false≢true, ⊎_elim, not-false, rules}
-use Rattle.scan.specs.Scan.{SquaresTell, AllWithin}
+use Rattle.sequences.proofs.Basics.{◌≡◌, sym, subst, ◌∙◌, ◌+◌, arith, false≢true, rules}
+use Rattle.scan.specs.Scan.{AllWithin}
 use Rattle.scan.proofs.Scan.{within_next}
 use Rattle.scan.proofs.inner.scan.all_within.Goals as goal
+use Rattle.scan.proofs.inner.scan.all_within.Goals.{then-not-x-bb, else-not-x-bb}
 
 pub loop-k-init : goal.loop-k-init
 loop-k-init c = (search rules, λ t q k l. absurd (omega arith))
@@ -10,10 +11,10 @@ loop-k-init c = (search rules, λ t q k l. absurd (omega arith))
 pub loop-k-preserved : goal.loop-k-preserved
 loop-k-preserved c = let a = c.args in let l = c.loop-k in (
   search rules,
-  λ t q. ⊎_elim (λ w. absurd (false≢true (sym w.1 ∙ t)))
-      (λ w. within_next a.b a.xs.now a.i l.k (q _ (c.type_inv.xs (a.i + l.k)) (not-false _ w.0.left))
-      (l.invariant.1 (sym w.1 ∙ t) q))
-      c.if-not-x-bb.branch,
+  λ t q. elim c.if-not-x-bb.branch [
+    | then-not-x-bb w ↦ absurd (false≢true (sym w.all-is ∙ t))
+    | else-not-x-bb w ↦ within_next a.b a.xs.now a.i l.k (q _ (c.type_inv.xs (a.i + l.k)) w.if-not-x-bb.false) (l.invariant.1 (sym w.all-is ∙ t) q)
+  ],
 )
 
 pub returns : goal.returns

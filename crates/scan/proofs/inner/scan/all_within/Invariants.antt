@@ -1,7 +1,6 @@
 -- `scan::inner::scan::all_within` meets its contract. Assumes nothing.
-use Rattle.sequences.proofs.Basics.{◌≡◌, sym, subst, ◌∙◌, ◌≤◌, ◌+◌, ◌-◌, arith, true, false≢true, ⊎_elim, not-false, rules}
+use Rattle.sequences.proofs.Basics.{◌≡◌, ◌≤◌, ◌-◌, true}
 use Rattle.scan.specs.Scan.{SquaresTell, AllWithin}
-use Rattle.scan.proofs.Scan.{within_next}
 use Rattle.scan.proofs.inner.scan.all_within.Given as goal
 
 abbrev pub invariant-loop-k : goal.invariant-loop-k

@@ -1,10 +1,6 @@
 -- `scan::inner::scan::first_unfit` meets its contract. Assumes nothing.
-use Rattle.sequences.proofs.Basics.{◌≡◌, sym, ap, subst, ◌∙◌, ℕ, ◌≤◌, ◌-◌, zero-add, arith, not, ⊎_elim, length, not-true, not-false, rules}
-use Rattle.scan.specs.Scan.{within, bound, Passed}
-use Rattle.sequences.proofs.First.{first_here, first_none}
-use Rattle.scan.proofs.Scan.{first_pass, first_unfit_lem, power_below}
-use Rattle.scan.proofs.Squares.{squares_tell}
-use lib.Ieee.{Float, nan}
+use Rattle.sequences.proofs.Basics.{◌≡◌, ℕ, ◌≤◌, ◌-◌, length}
+use Rattle.scan.specs.Scan.{bound, Passed}
 use Rattle.scan.proofs.inner.scan.first_unfit.Given as goal
 
 abbrev pub invariant-loop-i : goal.invariant-loop-i

@@ -1,6 +1,5 @@
 -- `scan::inner::scan::passed` meets its contract. Assumes nothing.
-use Rattle.sequences.proofs.Basics.{sym, ◌≤◌, ◌+◌, ◌*◌, zero-add, arith, length, not-false, rules}
-use Rattle.scan.specs.Scan.{SquaresTell, Passed}
+use Rattle.sequences.proofs.Basics.{sym, zero-add, arith, rules}
 use Rattle.scan.proofs.Scan.{pass_all}
 use Rattle.scan.proofs.inner.scan.passed.Goals as goal
 

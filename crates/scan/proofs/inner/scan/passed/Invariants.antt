@@ -1,7 +1,6 @@
 -- `scan::inner::scan::passed` meets its contract. Assumes nothing.
-use Rattle.sequences.proofs.Basics.{sym, ◌≤◌, ◌+◌, ◌*◌, zero-add, arith, length, not-false, rules}
+use Rattle.sequences.proofs.Basics.{◌≤◌, ◌+◌, ◌*◌, length}
 use Rattle.scan.specs.Scan.{SquaresTell, Passed}
-use Rattle.scan.proofs.Scan.{pass_all}
 use Rattle.scan.proofs.inner.scan.passed.Given as goal
 
 abbrev pub invariant-loop-left : goal.invariant-loop-left

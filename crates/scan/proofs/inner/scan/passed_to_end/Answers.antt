@@ -1,5 +1,5 @@
 -- `scan::inner::scan::passed_to_end` meets its contract. Assumes nothing.
-use Rattle.sequences.proofs.Basics.{not-false, rules}
+use Rattle.sequences.proofs.Basics.{rules}
 use Rattle.scan.proofs.Scan.{pass_end}
 use Rattle.scan.proofs.inner.scan.passed_to_end.Goals as goal
 

@@ -1,5 +1,5 @@
 -- `header` is the flat definition, byte by byte. Assumes nothing.
-use Rattle.sequences.proofs.Basics.{ℕ, List, [], ◌∷◌, ◌++◌, get_or, rules}
+use Rattle.sequences.proofs.Basics.{ℕ, List, [], ◌∷◌, ◌++◌, get_or}
 use Rattle.little.specs.Numbers.{ascii}
 use Rattle.wav.specs.Header.{header_of}
 use Rattle.wav.proofs.inner.header.header.Goals as goal

@@ -1,5 +1,5 @@
 -- `lay` lays the bytes one by one. Assumes nothing.
-use Rattle.sequences.proofs.Basics.{◌≡◌, refl, sym, ap, ◌∙◌, ℕ, ◌-◌, ◌≤◌, zero-add, arith, length, get_or, set, paste, paste-zero, rules}
+use Rattle.sequences.proofs.Basics.{refl, sym, ap, ◌∙◌, ℕ, zero-add, arith, get_or, set, paste-zero, rules}
 use Rattle.sequences.proofs.Pasted.{paste_next, paste_all}
 use Rattle.wav.proofs.inner.header.lay.Goals as goal
 
