@@ -96,8 +96,7 @@ loop-j-preserved c =
       | in-5 w ↦ arm 5 w.in-5.is w.cells-in-5.result w.outputs-in-5.result w.cells-in-5.ensures w.outputs-in-5.ensures _ w.spread-in-5.ensures w.dst-is
       | in-7 w ↦ arm 7 w.in-7.is w.cells-in-7.result w.outputs-in-7.result w.cells-in-7.ensures w.outputs-in-7.ensures _ w.spread-in-7.ensures w.dst-is
       | in_default w ↦ arm 8 (other c.requires.0 (((((tt {0}, λ (e : c.args.r ≡ 2). omega arith), λ (e : c.args.r ≡ 3). omega arith), λ (e : c.args.r ≡ 4). omega arith), λ (e : c.args.r ≡ 5). omega arith), λ (e : c.args.r ≡ 7). omega arith)) w.cells-in_default.result w.outputs-in_default.result w.cells-in_default.ensures w.outputs-in_default.ensures _ w.spread-in_default.ensures w.dst-is
-    ] in
-    (
+    ] in (
       omega arith,
       (w (λ i q. blank)).size ∙ l.invariant.1,
       λ lent done i p li lp. first_step a.r k _ l.dst c.match-r.dst (w lent) (l.invariant.2 lent done) i p (omega arith) lp,

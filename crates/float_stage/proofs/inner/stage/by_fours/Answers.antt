@@ -12,8 +12,7 @@ use Rattle.float_stage.proofs.inner.stage.by_fours.Goals as goal
 pub loop-i-init : goal.loop-i-init
 loop-i-init c =
     let a = c.args in
-    let p = c.requires in
-    (
+    let p = c.requires in (
       refl,
       record {
         fits = omega arith;
@@ -82,8 +81,7 @@ loop-i-preserved c =
     let even = even_fours a.even a.s n.result c.requires.4 (omega (arith, four)) in
     let part =
     four_part c.loop-i.i n.result a.m a.r a.tw.now _ c.first_word.ensures (c.lent.ensures.0 refl) c.loop-i.invariant.0 four
-    (omega (arith, fits, c.requires.5)) c.requires.1 in
-    (
+    (omega (arith, fits, c.requires.5)) c.requires.1 in (
       omega (arith, four, c.loop-i.invariant.0),
       round_next n.result c.loop-i.invariant.1 even c.lanes4.ensures.0 fits c.store4-at.auto.dst c.store4-at.ensures
           (c.lanes4.ensures.1 _ part.0),

@@ -10,8 +10,7 @@ use Rattle.float_stage.proofs.inner.stage.by_sixteens.Goals as goal
 
 pub loop-i-init : goal.loop-i-init
 loop-i-init c =
-    let p = c.requires in
-    (
+    let p = c.requires in (
       refl,
       p.7,
       record {
@@ -87,8 +86,7 @@ loop-i-preserved c =
     let even = even_batch a.even c.loop-i.i a.m a.s a.r _ c.requires.5 c.requires.3 c.loop-i.invariant.2.even n.ensures.3 n.ensures.4 in
     let part =
     lent_part c.laid_out-layout.result c.loop-i.i n.result a.m a.r a.w a.tw.now _ _ c.first_word.ensures c.laid_out-layout.ensures.0
-    c.loop-i.invariant.1 fits n.ensures.1 c.requires.0.few c.requires.1.lent (c.fetch.auto.t ∙ c.loop-i.invariant.0) c.lent.ensures c.fetch.ensures in
-    (
+    c.loop-i.invariant.1 fits n.ensures.1 c.requires.0.few c.requires.1.lent (c.fetch.auto.t ∙ c.loop-i.invariant.0) c.lent.ensures c.fetch.ensures in (
       c.fetch.auto.t ∙ c.loop-i.invariant.0,
       λ four. omega (arith, c.loop-i.invariant.1 four),
       round_next n.result c.loop-i.invariant.2 even c.lanes.ensures.0 fits c.store-at.auto.dst c.store-at.ensures

@@ -24,10 +24,10 @@ in-lanes c =
     let e = c.evenly-even in
     elim c.if-end-gt0.branch [
       | then-end-gt0 w ↦ (
-          ap length w.dst-is ∙ w.by_fours-at.auto.dst,
-          rw w.at-is w.by_fours-at.ensures.0,
-          rw w.dst-is (from_fours a.w a.m a.s a.r a.src.now a.tw.now w.by_fours-at.new.dst n.ensures.2 w.by_fours-at.ensures.1),
-        )
+        ap length w.dst-is ∙ w.by_fours-at.auto.dst,
+        rw w.at-is w.by_fours-at.ensures.0,
+        rw w.dst-is (from_fours a.w a.m a.s a.r a.src.now a.tw.now w.by_fours-at.new.dst n.ensures.2 w.by_fours-at.ensures.1),
+      )
       | else-end-gt0 w ↦
           let none : n.result ≡ 0 = omega (arith, w.if-end-gt0.false) in (
             ap length w.dst-is,

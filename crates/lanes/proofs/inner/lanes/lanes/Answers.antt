@@ -49,8 +49,7 @@ loop-j-preserved c =
     let few : l.j < 16 = omega arith in
     let lj : l.j < a.len = omega arith in
     let low = low_arm l.invariant.1 (λ ρ. ρ - 1) 1 a.tw.now few (fetched_at a.i a.len a.r l.j a.tw.now lj) c.requires.5 in
-    let high = high_arm l.invariant.1 (λ ρ. ρ - 1) 1 a.tw.now few (fetched_at a.i a.len a.r l.j a.tw.now lj) c.requires.5 in
-    (
+    let high = high_arm l.invariant.1 (λ ρ. ρ - 1) 1 a.tw.now few (fetched_at a.i a.len a.r l.j a.tw.now lj) c.requires.5 in (
       omega arith,
       elim c.match-r.branch [
         | in-3 w ↦ low 3 w.in-3.is w.cells.result w.cells.ensures _ _ _ _ _ _ (omega arith) w.save.ensures w.ra-is w.ia-is w.rb-is w.ib-is
