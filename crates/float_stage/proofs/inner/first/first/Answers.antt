@@ -1,10 +1,10 @@
 -- `float_stage::inner::first::first` meets its contract. Assumes nothing.
-use Rattle.sequences.proofs.Basics.{◌≡◌, refl, ◌∙◌, ℕ, ◌+◌, ◌-◌, ◌*◌, ◌≤◌, arith, true, length}
+use Rattle.sequences.proofs.Basics.{◌≡◌, refl, ◌∙◌, ℕ, ◌+◌, ◌*◌, arith, true, length}
 use Rattle.radices.specs.Lists.{is_radix}
 use Rattle.floats.specs.declared.complex.Complex.{Complex}
 use Rattle.floats.specs.Complexes.{blank}
 use Rattle.kernel.specs.Parts.{output_of}
-use Rattle.storing.specs.Parts.{Wrote, Done}
+use Rattle.storing.specs.Parts.{Wrote}
 use Rattle.float_stage.proofs.First.{first_step, other, first_asks, room_at, first_arm}
 use Rattle.float_stage.proofs.inner.first.first.Goals as goal
 use Rattle.float_stage.proofs.inner.first.first.Goals.{in-2, in-3, in-4, in-5, in-7, in_default}

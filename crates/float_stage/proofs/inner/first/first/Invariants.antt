@@ -1,11 +1,8 @@
 -- `float_stage::inner::first::first` meets its contract. Assumes nothing.
-use Rattle.sequences.proofs.Basics.{◌≡◌, refl, ◌∙◌, ℕ, ◌+◌, ◌-◌, ◌*◌, ◌≤◌, arith, true, ⊎_elim, length, rules}
-use Rattle.radices.specs.Lists.{is_radix}
+use Rattle.sequences.proofs.Basics.{◌≡◌, ℕ, ◌+◌, ◌-◌, ◌≤◌, true, length}
 use Rattle.floats.specs.declared.complex.Complex.{Complex}
-use Rattle.floats.specs.Complexes.{blank}
 use Rattle.kernel.specs.Parts.{output_of}
-use Rattle.storing.specs.Parts.{Wrote, Done}
-use Rattle.float_stage.proofs.First.{first_step, other, first_asks, room_at, first_arm}
+use Rattle.storing.specs.Parts.{Done}
 use Rattle.float_stage.proofs.inner.first.first.Given as goal
 
 abbrev pub invariant-loop-j : goal.invariant-loop-j

@@ -1,7 +1,5 @@
 -- `float_stage::inner::first::spread` meets its contract. Assumes nothing.
-use Rattle.sequences.proofs.Basics.{◌≡◌, refl, ◌+◌, ◌-◌, ◌*◌, ◌≤◌, ◌<◌, arith, get_or, length, rules}
-use Rattle.floats.specs.Complexes.{blank}
-use Rattle.storing.specs.Parts.{Wrote}
+use Rattle.sequences.proofs.Basics.{◌≡◌, refl, ◌+◌, ◌*◌, ◌<◌, arith, length}
 use Rattle.storing.proofs.Writes.{wrote_none, wrote_step, wrote_all}
 use Rattle.float_stage.proofs.inner.first.spread.Goals as goal
 

@@ -1,8 +1,7 @@
 -- `float_stage::inner::first::spread` meets its contract. Assumes nothing.
-use Rattle.sequences.proofs.Basics.{◌≡◌, refl, ◌+◌, ◌-◌, ◌*◌, ◌≤◌, ◌<◌, arith, get_or, length, rules}
+use Rattle.sequences.proofs.Basics.{◌-◌, ◌≤◌, get_or}
 use Rattle.floats.specs.Complexes.{blank}
 use Rattle.storing.specs.Parts.{Wrote}
-use Rattle.storing.proofs.Writes.{wrote_none, wrote_step, wrote_all}
 use Rattle.float_stage.proofs.inner.first.spread.Given as goal
 
 abbrev pub invariant-loop-p : goal.invariant-loop-p

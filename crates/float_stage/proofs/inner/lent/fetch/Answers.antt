@@ -1,7 +1,6 @@
 -- `float_stage::inner::lent::fetch` meets its contract. Assumes nothing.
-use Rattle.sequences.proofs.Basics.{◌≡◌, refl, ◌∙◌, ◌-◌, ◌≤◌, arith, length, rules}
+use Rattle.sequences.proofs.Basics.{refl, ◌∙◌, arith}
 use Rattle.kernel.specs.Floats.{lent_at}
-use Rattle.lanes.specs.Parts.{Fetched}
 use Rattle.float_stage.proofs.Widths.{fetched_step, unlike}
 use Rattle.float_stage.proofs.inner.lent.fetch.Goals as goal
 

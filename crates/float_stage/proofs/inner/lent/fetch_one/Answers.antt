@@ -1,5 +1,5 @@
 -- `float_stage::inner::lent::fetch_one` meets its contract. Assumes nothing.
-use Rattle.sequences.proofs.Basics.{ℕ, sym, ap, ◌+◌, ◌-◌, ◌*◌, ◌%◌, ◌≤◌, ◌<◌, mul-le-mul_right, arith, rules}
+use Rattle.sequences.proofs.Basics.{ℕ, sym, ap, ◌+◌, ◌-◌, ◌*◌, ◌%◌, ◌≤◌, ◌<◌, mul-le-mul_right, arith}
 use Rattle.floats.specs.Complexes.{cell}
 use Rattle.storing.proofs.Writes.{wrote_as}
 use Rattle.packing.proofs.Places.{place_lt, place_in, place_past}

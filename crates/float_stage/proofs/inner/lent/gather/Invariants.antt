@@ -1,8 +1,7 @@
 -- `float_stage::inner::lent::gather` meets its contract. Assumes nothing.
-use Rattle.sequences.proofs.Basics.{◌≡◌, ◌+◌, ◌-◌, ◌*◌, ◌≤◌, ◌<◌, arith, length, rules}
+use Rattle.sequences.proofs.Basics.{◌+◌, ◌-◌, ◌*◌, ◌≤◌}
 use Rattle.floats.specs.Complexes.{cell}
 use Rattle.storing.specs.Parts.{Wrote}
-use Rattle.storing.proofs.Writes.{wrote_none, wrote_step, wrote_all}
 use Rattle.float_stage.proofs.inner.lent.gather.Given as goal
 
 abbrev pub invariant-loop-u : goal.invariant-loop-u

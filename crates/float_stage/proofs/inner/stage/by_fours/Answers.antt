@@ -1,12 +1,8 @@
 -- `float_stage::inner::stage::by_fours` meets its contract. Assumes nothing.
-use Rattle.sequences.proofs.Basics.{◌≡◌, refl, ◌+◌, ◌-◌, ◌*◌, ◌%◌, ◌≤◌, arith, false, length, rules}
-use Rattle.kernel.specs.Floats.{lent_at}
-use Rattle.kernel.specs.Parts.{output_of}
-use Rattle.lanes.specs.Parts.{Fetched4}
-use Rattle.storing.specs.Parts.{Even}
+use Rattle.sequences.proofs.Basics.{◌≡◌, refl, ◌+◌, ◌≤◌, arith}
 use Rattle.storing.proofs.Batches.{even_fours, even_none}
 use Rattle.float_stage.proofs.Widths.{past_room, four_part}
-use Rattle.float_stage.proofs.Rounds.{placed_first, Round, round_asks, round_next}
+use Rattle.float_stage.proofs.Rounds.{placed_first, round_asks, round_next}
 use Rattle.float_stage.proofs.inner.stage.by_fours.Goals as goal
 
 pub loop-i-init : goal.loop-i-init

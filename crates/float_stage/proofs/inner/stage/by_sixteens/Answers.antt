@@ -1,11 +1,7 @@
 -- `float_stage::inner::stage::by_sixteens` meets its contract. Assumes nothing.
-use Rattle.sequences.proofs.Basics.{◌≡◌, refl, sym, ◌∙◌, ◌+◌, ◌-◌, ◌*◌, ◌/◌, ◌≤◌, ◌<◌, arith, false, length, rules}
-use Rattle.kernel.specs.Floats.{lent_at}
-use Rattle.kernel.specs.Parts.{output_of}
-use Rattle.lanes.specs.Parts.{Fetched}
-use Rattle.storing.specs.Parts.{Even}
+use Rattle.sequences.proofs.Basics.{refl, sym, ◌∙◌, ◌+◌, ◌≤◌, ◌<◌, arith}
 use Rattle.float_stage.proofs.Widths.{past_room, lent_part}
-use Rattle.float_stage.proofs.Rounds.{even_batch, Round, round_asks, round_next}
+use Rattle.float_stage.proofs.Rounds.{even_batch, round_asks, round_next}
 use Rattle.float_stage.proofs.inner.stage.by_sixteens.Goals as goal
 
 pub loop-i-init : goal.loop-i-init

@@ -1,11 +1,8 @@
 -- `float_stage::inner::stage::by_sixteens` meets its contract. Assumes nothing.
-use Rattle.sequences.proofs.Basics.{◌≡◌, refl, sym, ◌∙◌, ◌+◌, ◌-◌, ◌*◌, ◌/◌, ◌≤◌, ◌<◌, arith, false, length, rules}
+use Rattle.sequences.proofs.Basics.{◌≡◌, ◌-◌, ◌*◌, ◌/◌, ◌≤◌, false, length}
 use Rattle.kernel.specs.Floats.{lent_at}
 use Rattle.kernel.specs.Parts.{output_of}
-use Rattle.lanes.specs.Parts.{Fetched}
-use Rattle.storing.specs.Parts.{Even}
-use Rattle.float_stage.proofs.Widths.{past_room, lent_part}
-use Rattle.float_stage.proofs.Rounds.{even_batch, Round, round_asks, round_next}
+use Rattle.float_stage.proofs.Rounds.{Round}
 use Rattle.float_stage.proofs.inner.stage.by_sixteens.Given as goal
 
 abbrev pub invariant-loop-i : goal.invariant-loop-i

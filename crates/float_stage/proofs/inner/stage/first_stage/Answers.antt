@@ -1,8 +1,5 @@
 -- `float_stage::inner::stage::first_stage` meets its contract. Assumes nothing.
-use Rattle.sequences.proofs.Basics.{◌≡◌, refl, ◌∙◌, ℕ, ◌-◌, ◌≤◌, ◌<◌, arith, true, length, rules}
-use Rattle.floats.specs.declared.complex.Complex.{Complex}
-use Rattle.kernel.specs.Parts.{output_of}
-use Rattle.storing.specs.Parts.{Done}
+use Rattle.sequences.proofs.Basics.{refl, ◌∙◌, ◌<◌, arith}
 use Rattle.float_stage.proofs.inner.stage.first_stage.Goals as goal
 
 pub loop-i-init : goal.loop-i-init

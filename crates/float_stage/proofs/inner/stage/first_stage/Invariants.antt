@@ -1,5 +1,5 @@
 -- `float_stage::inner::stage::first_stage` meets its contract. Assumes nothing.
-use Rattle.sequences.proofs.Basics.{◌≡◌, refl, ◌∙◌, ℕ, ◌-◌, ◌≤◌, ◌<◌, arith, true, length, rules}
+use Rattle.sequences.proofs.Basics.{◌≡◌, ℕ, ◌-◌, ◌≤◌, true, length}
 use Rattle.floats.specs.declared.complex.Complex.{Complex}
 use Rattle.kernel.specs.Parts.{output_of}
 use Rattle.storing.specs.Parts.{Done}

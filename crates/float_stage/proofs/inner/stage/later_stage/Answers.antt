@@ -1,5 +1,5 @@
 -- `float_stage::inner::stage::later_stage` meets its contract. Assumes nothing.
-use Rattle.sequences.proofs.Basics.{◌≡◌, ap, ◌∙◌, arith, false, length, rules}
+use Rattle.sequences.proofs.Basics.{◌≡◌, ap, ◌∙◌, arith, false, length}
 use Rattle.kernel.specs.Floats.{lent_at}
 use Rattle.kernel.specs.Parts.{output_of}
 use Rattle.storing.specs.Parts.{Done, Placed}

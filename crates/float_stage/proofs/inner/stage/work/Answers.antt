@@ -1,5 +1,5 @@
 -- `float_stage::inner::stage::work` meets its contract. Assumes nothing.
-use Rattle.sequences.proofs.Basics.{refl, ◌-◌, arith, rules}
+use Rattle.sequences.proofs.Basics.{refl, arith}
 use Rattle.plan.proofs.Bounds.{plan_order, plan_radix_bounds}
 use Rattle.float_stage.proofs.Works.{work_sized, work_room, work_lending, work_blocks, first_made, later_made}
 use Rattle.float_stage.proofs.inner.stage.work.Goals as goal
