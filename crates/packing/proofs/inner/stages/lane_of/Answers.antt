@@ -1,5 +1,5 @@
 -- `packing::inner::stages::lane_of` meets its contract. Assumes nothing.
-use Rattle.sequences.proofs.Basics.{refl, mod-lt, arith, rules}
+use Rattle.sequences.proofs.Basics.{refl, mod-lt, arith}
 use Rattle.packing.proofs.Lanes.{lane_apart, lone_apart, small}
 use Rattle.packing.proofs.inner.stages.lane_of.Goals as goal
 

@@ -1,10 +1,9 @@
 -- `packing::inner::stages::stage` meets its contract. Assumes nothing.
-use Rattle.sequences.proofs.Basics.{◌≡◌, refl, ◌∙◌, ◌-◌, ◌≤◌, div-mul-le_self, arith, length, rules}
+use Rattle.sequences.proofs.Basics.{◌≡◌, refl, ◌∙◌, ◌-◌, div-mul-le_self, arith}
 use lib.Ieee.{nan}
-use Rattle.packing.specs.Twiddles.{twiddle}
 use Rattle.turn.proofs.Index.{housed_pos}
 use Rattle.packing.proofs.Circle.{housed_small}
-use Rattle.packing.proofs.Fill.{Placed, all_placed}
+use Rattle.packing.proofs.Fill.{all_placed}
 use Rattle.packing.proofs.Stage.{turn_small, lane_turnable, stage_next}
 use Rattle.packing.proofs.inner.stages.stage.Goals as goal
 

@@ -1,10 +1,8 @@
 -- `packing::inner::stages::stages` meets its contract. Assumes nothing.
-use Rattle.sequences.proofs.Basics.{◌≡◌, refl, ◌-◌, ◌*◌, ◌<◌, ◌≤◌, arith, length, take, rules}
-use Rattle.counts.specs.Counts.{twiddle_start}
+use Rattle.sequences.proofs.Basics.{refl, arith}
 use Rattle.counts.proofs.Counts.{start_few}
 use Rattle.plan.proofs.Bounds.{plan_order, plan_long}
 use Rattle.schedule.specs.Plans.{in_use}
-use Rattle.packing.specs.Twiddles.{stages_words}
 use Rattle.packing.proofs.Stages.{stages_none, stage_shape, part_bounds, part_room, stages_next, stages_done}
 use Rattle.packing.proofs.inner.stages.stages.Goals as goal
 

@@ -13,7 +13,7 @@ put-requires c = omega (arith, c.loop-t.invariant.1.size)
 
 pub loop-t-preserved : goal.loop-t-preserved
 loop-t-preserved c = let l = c.loop-t in let put = c.put in let room : 2 * (c.args.at + l.t) + 1 < length c.args.dst.now = omega arith in
-    (omega arith, wrote_step _ _ _ l.t l.dst put.last.0 _ room l.invariant.1 refl put.ensures)
+    (omega arith, wrote_step _ _ _ l.t l.dst _ _ room l.invariant.1 refl put.ensures)
 
 pub shape_of-dst : goal.shape_of-dst
 shape_of-dst c = c.loop-t.invariant.1.size

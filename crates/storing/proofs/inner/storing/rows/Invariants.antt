@@ -11,8 +11,8 @@ use Rattle.storing.proofs.Places.{row_room}
 use Rattle.storing.proofs.inner.storing.rows.Given as goal
 
 abbrev pub invariant-loop-p : goal.invariant-loop-p
-invariant-loop-p l = (l.p ≤ l.initial.dst) × (length l.dst ≡ length l.at)
-    × ((v : ℕ → ℕ → Complex) → ((t q : ℕ) → t < l.s → q < l.initial.dst → lane l.re l.im (16 * q + l.j + t) ≡ v (l.n + t) q) → Done l.r l.initial.dst v l.at l.n → Rowed l.r l.initial.dst v (cell l.dst) l.n l.s l.p)
+invariant-loop-p l = (l.p ≤ l.r) × (length l.dst ≡ length l.initial.dst)
+    × ((v : ℕ → ℕ → Complex) → ((t q : ℕ) → t < l.n → q < l.r → lane l.re l.im (16 * q + l.j + t) ≡ v (l.i + t) q) → Done l.s l.r v l.initial.dst l.i → Rowed l.s l.r v (cell l.dst) l.i l.n l.p)
 
 abbrev pub decreases-loop-p : goal.decreases-loop-p
-decreases-loop-p l = l.initial.dst - l.p
+decreases-loop-p l = l.r - l.p
