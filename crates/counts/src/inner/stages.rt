@@ -1,7 +1,7 @@
 // Of each stage of an accepted plan: its stride, how many twiddles it has and where they start.
 ghost use Rattle.std.specs.Prelude.{◌≡◌, true, ◌≤◌, ◌<◌};
 ghost use Rattle.plan.specs.Record.{is_planned};
-ghost use Rattle.counts.specs.Counts.{stride as Counts·stride, twiddle_count, twiddle_start, end_count, result_in};
+ghost use Rattle.counts.specs.Counts.{stride, twiddle_count, twiddle_start, end_count, result_in};
 
 use crate::Buffer;
 use plan::Record;
@@ -9,7 +9,7 @@ use plan::Record;
 // The product of the radices before stage j.
 pub fn stride(plan: Record, j: usize) -> usize
     requires { (is_planned plan ≡ true) × (j ≤ plan.count) }
-    ensures { result ≡ Counts·stride plan.radices j }
+    ensures { result ≡ stride plan.radices j }
 {
     let mut s: usize = 1;
     let mut i = 0;

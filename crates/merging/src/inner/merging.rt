@@ -1,7 +1,7 @@
 // Merging of 2s and 4s into 8s, and the radices in ascending order.
 ghost use Rattle.std.specs.Prelude.{◌≡◌, ◌+◌, ◌≤◌, length};
 ghost use Rattle.radices.specs.Lists.{padded};
-ghost use Rattle.merging.specs.Merging.{tally, total, first_rule, merge as Merging·merge, letter as Merging·letter, merge_all, sorted};
+ghost use Rattle.merging.specs.Merging.{tally, total, first_rule, merge, letter, merge_all, sorted};
 
 use crate::Merges;
 use radices::inner::lists::{count_of, filled};
@@ -70,7 +70,7 @@ pub fn first_rule(t: Tally) -> Rule
 // What the first rule that applies makes of the radices.
 pub fn merge(t: Tally, rule: Rule) -> Tally
     requires { (rule ≡ first_rule t) × (total t ≤ 13) }
-    ensures { result ≡ Merging·merge rule t }
+    ensures { result ≡ merge rule t }
 {
     let mut s = t;
     match rule {
@@ -99,7 +99,7 @@ pub fn merge(t: Tally, rule: Rule) -> Tally
 
 // The letter of a rule, 0 for none.
 pub fn letter(rule: Rule) -> u8
-    ensures { result ≡ Merging·letter rule }
+    ensures { result ≡ letter rule }
 {
     match rule {
         Rule::A => b'A',

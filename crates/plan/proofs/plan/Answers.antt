@@ -8,15 +8,6 @@ use Rattle.radices.proofs.Products.{running_early, running_through}
 use Rattle.plan.proofs.Planning.{answer_refused, answer_accepted}
 use Rattle.plan.proofs.plan.Goals as goal
 
--- past the last test the list is accepted
-chosen : (c : goal.Else-n-eq1) → let list = c.args.list.now in (plan_verdict list ≡ Accepted) × (c.running_product-run.result.product ≡ product list)
-unfolding plan_verdict
-chosen c =
-    let list = c.args.list.now in let run = c.running_product-run.ensures in let over = running_early _ _ run in
-    let all = running_through _ _ run c.if-over-list.false in
-    let odd : product list % 2 ≡ 1 → ⊥ = rw all at c.if-n-eq1.false in
-    (sym (search (deciding, over) depth 8), all)
-
 pub returns-then-list-eq0 : goal.returns-then-list-eq0
 unfolding plan_verdict
 returns-then-list-eq0 c = record { answer = answer_refused _ _ _ c.refused.ensures (search deciding) }
@@ -37,7 +28,17 @@ returns-then-n-eq1 c = let list = c.args.list.now in let run = c.running_product
     record { answer = answer_refused _ _ _ c.refused-then-n-eq1.ensures (search (deciding, over) depth 8) }
 
 pub accepted-requires : goal.accepted-requires
-accepted-requires c = chosen c
+unfolding plan_verdict
+accepted-requires c =
+    let list = c.args.list.now in let run = c.running_product-run.ensures in let over = running_early _ _ run in
+    let all = running_through _ _ run c.if-over-list.false in
+    let odd : product list % 2 ≡ 1 → ⊥ = rw all at c.if-n-eq1.false in
+    (sym (search (deciding, over) depth 8), all)
 
 pub returns : goal.returns
-returns c = record { answer = answer_accepted _ _ c.accepted.ensures (sym (chosen c).0) }
+unfolding plan_verdict
+returns c =
+    let list = c.args.list.now in let run = c.running_product-run.ensures in let over = running_early _ _ run in
+    let all = running_through _ _ run c.if-over-list.false in
+    let odd : product list % 2 ≡ 1 → ⊥ = rw all at c.if-n-eq1.false in
+    record { answer = answer_accepted _ _ c.accepted.ensures (search (deciding, over) depth 8) }

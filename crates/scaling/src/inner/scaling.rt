@@ -2,7 +2,7 @@
 ghost use Rattle.std.specs.Prelude.{◌≡◌, ◌+◌, ◌*◌, ◌^◌, ◌≤◌, ◌<◌, length, set, ◌++◌};
 ghost use Rattle.radices.specs.Lists.{listed};
 ghost use Rattle.scaling.specs.Parts.{Scalable};
-ghost use Rattle.scaling.specs.Scaling.{gain as Scaling·gain, gained, list_rows, refused_scaling, scaled};
+ghost use Rattle.scaling.specs.Scaling.{gain, gained, list_rows, refused_scaling, scaled};
 ghost use Rattle.refusal.specs.Refusal.{verdict};
 
 use crate::Scaled;
@@ -13,7 +13,7 @@ use refusal::{Refusal, Verdict};
 // The smallest g with 2 ^ g times the base at least the target.
 pub fn gain(target: usize, base: usize) -> usize
     requires { (target ≤ 4096) × ((0 < base) × (base ≤ 8192)) }
-    ensures { result ≡ Scaling·gain target base }
+    ensures { result ≡ gain target base }
 {
     let mut reached = base;
     let mut g = 0;

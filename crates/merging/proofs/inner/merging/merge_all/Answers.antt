@@ -7,23 +7,23 @@ pub merging-init : goal.merging-init
 merging-init c = so_far_none c.args.start c.requires
 
 pub bounds-letters-count : goal.bounds-letters-count
-bounds-letters-count c = so_far_fits c.args.start c.merging.letters c.merging.count c.merging.t c.merging.inv c.first_rule-rule.result
+bounds-letters-count c = so_far_fits c.args.start c.merging.letters c.merging.count c.merging.t c.merging.invariant c.first_rule-rule.result
     c.letter-mark.result c.first_rule-rule.ensures c.letter-mark.ensures c.if-mark-eq0.false
 
 pub overflow_add-count : goal.overflow_add-count
-overflow_add-count c = omega (arith, c.merging.inv.room)
+overflow_add-count c = omega (arith, c.merging.invariant.room)
 
 pub merge-t-requires : goal.merge-t-requires
-merge-t-requires c = (c.first_rule-rule.ensures, c.merging.inv.few)
+merge-t-requires c = (c.first_rule-rule.ensures, c.merging.invariant.few)
 
 pub merging-smaller : goal.merging-smaller
-merging-smaller c = (so_far_again c.args.start c.merging.letters c.merging.count c.merging.t c.merging.inv c.first_rule-rule.result
+merging-smaller c = (so_far_again c.args.start c.merging.letters c.merging.count c.merging.t c.merging.invariant c.first_rule-rule.result
     c.letter-mark.result c.merge-t.result c.first_rule-rule.ensures c.letter-mark.ensures c.if-mark-eq0.false c.merge-t.ensures).1
 
 pub merging-preserved : goal.merging-preserved
-merging-preserved c = (so_far_again c.args.start c.merging.letters c.merging.count c.merging.t c.merging.inv c.first_rule-rule.result
+merging-preserved c = (so_far_again c.args.start c.merging.letters c.merging.count c.merging.t c.merging.invariant c.first_rule-rule.result
     c.letter-mark.result c.merge-t.result c.first_rule-rule.ensures c.letter-mark.ensures c.if-mark-eq0.false c.merge-t.ensures).0
 
 pub returns : goal.returns
-returns c = so_far_end c.args.start c.merging.letters c.merging.count c.merging.t c.merging.inv c.first_rule-rule.result
+returns c = so_far_end c.args.start c.merging.letters c.merging.count c.merging.t c.merging.invariant c.first_rule-rule.result
     c.letter-mark.result c.first_rule-rule.ensures c.letter-mark.ensures c.if-mark-eq0.true
