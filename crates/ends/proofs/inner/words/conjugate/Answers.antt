@@ -15,10 +15,10 @@ put-requires c = omega (arith, c.loop-i.invariant.1.size, c.requires.1, c.loop-i
 
 pub loop-i-preserved : goal.loop-i-preserved
 loop-i-preserved c = let l = c.loop-i in (
-      omega (arith, c.loop-i-test.true),
-      mapped_next conjugate c.args.cells.now l.cells _ l.i _ l.invariant.1 (omega (arith, l.invariant.1.size, c.requires.1, c.loop-i-test.true))
-          (c.conj.ensures ∙ ap conjugate c.get-z.ensures) c.put.ensures,
-    )
+  omega (arith, c.loop-i-test.true),
+  mapped_next conjugate c.args.cells.now l.cells _ l.i _ l.invariant.1 (omega (arith, l.invariant.1.size, c.requires.1, c.loop-i-test.true))
+      (c.conj.ensures ∙ ap conjugate c.get-z.ensures) c.put.ensures,
+)
 
 pub returns : goal.returns
 returns c = let l = c.loop-i in let e : l.i ≡ c.args.h = omega (arith, l.invariant.0, c.loop-i-test.false) in
