@@ -20,20 +20,24 @@ later-requires c = (
 )
 
 pub shape_of-data : goal.shape_of-data
-shape_of-data c = elim c.if-plan-gt0.branch [ then-plan-gt0 w ↦ ap length w.data-is ∙ w.later.auto.«data»
-    | else-plan-gt0 w ↦ ap length w.data-is ∙ w.paste.auto.dst ]
+shape_of-data c = elim c.if-plan-gt0.branch [
+  | then-plan-gt0 w ↦ ap length w.data-is ∙ w.later.auto.«data»
+  | else-plan-gt0 w ↦ ap length w.data-is ∙ w.paste.auto.dst
+]
 
 pub shape_of-scratch : goal.shape_of-scratch
-shape_of-scratch c = elim c.if-plan-gt0.branch [ then-plan-gt0 w ↦ ap length w.scratch-is ∙ w.later.auto.scratch ∙ w.one.auto.dst
-    | else-plan-gt0 w ↦ ap length w.scratch-is ]
+shape_of-scratch c = elim c.if-plan-gt0.branch [
+  | then-plan-gt0 w ↦ ap length w.scratch-is ∙ w.later.auto.scratch ∙ w.one.auto.dst
+  | else-plan-gt0 w ↦ ap length w.scratch-is
+]
 
 pub returns : goal.returns
 returns c = let a = c.args in let b : Two Float = (a.input.now, a.scratch.now) in let f = stage_in a.plan a.width a.twiddles.now in
     let left : (c.if-plan-gt0.«data» ≡ (run_of a.plan a.width a.twiddles.now b).0)
     × (c.if-plan-gt0.scratch ≡ (run_of a.plan a.width a.twiddles.now b).1) =
     elim c.if-plan-gt0.branch [
-      then-plan-gt0 w ↦ let g = w.later.ensures a.input.now a.scratch.now w.one.ensures in (w.data-is ∙ g.0, w.scratch-is ∙ g.1)
-    | else-plan-gt0 w ↦ let g = gone_none f a.plan.count (omega (arith, w.if-plan-gt0.false)) b in
-        (w.data-is ∙ w.paste.ensures ∙ whole_pasted _ _ c.requires.1 ∙ g.0, w.scratch-is ∙ g.1)
+      | then-plan-gt0 w ↦ let g = w.later.ensures a.input.now a.scratch.now w.one.ensures in (w.data-is ∙ g.0, w.scratch-is ∙ g.1)
+      | else-plan-gt0 w ↦ let g = gone_none f a.plan.count (omega (arith, w.if-plan-gt0.false)) b in
+          (w.data-is ∙ w.paste.ensures ∙ whole_pasted _ _ c.requires.1 ∙ g.0, w.scratch-is ∙ g.1)
     ] in
     record { data_after = left.0; scratch_after = left.1; value = c.result_in.ensures }

@@ -42,13 +42,13 @@ pub loop-k-preserved : goal.loop-k-preserved
 loop-k-preserved c = let a = c.args in let l = c.loop-k in let j = c.if-k-eq0 in let f = stage_in a.plan a.width a.twiddles.now in
     let next : (length j.«data» ≡ 2 * a.plan.half) × (length j.scratch ≡ 2 * a.plan.half) × Going f a.scratch.now j.«data» j.scratch (l.k + 1) =
     elim j.branch [
-      then-k-eq0 w ↦ (
+      | then-k-eq0 w ↦ (
         ap length w.data-is ∙ l.invariant.3,
         ap length (w.scratch-is ∙ w.one.ensures) ∙ length_made a.plan l.k a.width _ _,
         going_even f a.scratch.now l.«data» l.scratch j.«data» j.scratch l.k l.invariant.0 l.invariant.5 w.if-k-eq0.true w.data-is
             (w.scratch-is ∙ w.one.ensures),
       )
-    | else-k-eq0 w ↦ (
+      | else-k-eq0 w ↦ (
         ap length (w.data-is ∙ w.one-else-k-eq0.ensures) ∙ length_made a.plan l.k a.width _ _,
         ap length w.scratch-is ∙ l.invariant.4,
         going_odd f a.scratch.now l.«data» l.scratch j.«data» j.scratch l.k l.invariant.0 l.invariant.5 w.if-k-eq0.false
