@@ -1,5 +1,5 @@
 -- `ends::inner::cells::preprocess_ifft` meets its contract. Assumes nothing.
-use Rattle.sequences.proofs.Basics.{ap, arith, rules}
+use Rattle.sequences.proofs.Basics.{ap, arith}
 use Rattle.floats.specs.Complexes.{cell}
 use Rattle.mixing.specs.Steps.{ifft_steps}
 use Rattle.mixing.specs.Parts.{conjugating}
