@@ -20,8 +20,14 @@ overflow_mul-k c =
     omega (arith, room_at c.args.m c.args.r (c.args.i + c.loop-j.j) (length c.args.dst.now) (omega arith) c.requires.2 2 c.in-2.is)
 
 pub spread-requires : goal.spread-requires
-spread-requires c =
-    (omega arith, omega (arith, room_at c.args.m c.args.r (c.args.i + c.loop-j.j) (length c.args.dst.now) (omega arith) c.requires.2 2 c.in-2.is, c.loop-j.invariant.1))
+spread-requires c = (
+  omega arith,
+  omega (
+    arith,
+    room_at c.args.m c.args.r (c.args.i + c.loop-j.j) (length c.args.dst.now) (omega arith) c.requires.2 2 c.in-2.is,
+    c.loop-j.invariant.1,
+  ),
+)
 
 pub cells-requires-in-3 : goal.cells-requires-in-3
 cells-requires-in-3 c = first_asks c.requires.0 3 c.in-3.is _ _ (omega arith)
@@ -31,8 +37,14 @@ overflow_mul-k-in-3 c =
     omega (arith, room_at c.args.m c.args.r (c.args.i + c.loop-j.j) (length c.args.dst.now) (omega arith) c.requires.2 3 c.in-3.is)
 
 pub spread-requires-in-3 : goal.spread-requires-in-3
-spread-requires-in-3 c =
-    (omega arith, omega (arith, room_at c.args.m c.args.r (c.args.i + c.loop-j.j) (length c.args.dst.now) (omega arith) c.requires.2 3 c.in-3.is, c.loop-j.invariant.1))
+spread-requires-in-3 c = (
+  omega arith,
+  omega (
+    arith,
+    room_at c.args.m c.args.r (c.args.i + c.loop-j.j) (length c.args.dst.now) (omega arith) c.requires.2 3 c.in-3.is,
+    c.loop-j.invariant.1,
+  ),
+)
 
 pub cells-requires-in-4 : goal.cells-requires-in-4
 cells-requires-in-4 c = first_asks c.requires.0 4 c.in-4.is _ _ (omega arith)
@@ -42,8 +54,14 @@ overflow_mul-k-in-4 c =
     omega (arith, room_at c.args.m c.args.r (c.args.i + c.loop-j.j) (length c.args.dst.now) (omega arith) c.requires.2 4 c.in-4.is)
 
 pub spread-requires-in-4 : goal.spread-requires-in-4
-spread-requires-in-4 c =
-    (omega arith, omega (arith, room_at c.args.m c.args.r (c.args.i + c.loop-j.j) (length c.args.dst.now) (omega arith) c.requires.2 4 c.in-4.is, c.loop-j.invariant.1))
+spread-requires-in-4 c = (
+  omega arith,
+  omega (
+    arith,
+    room_at c.args.m c.args.r (c.args.i + c.loop-j.j) (length c.args.dst.now) (omega arith) c.requires.2 4 c.in-4.is,
+    c.loop-j.invariant.1,
+  ),
+)
 
 pub cells-requires-in-5 : goal.cells-requires-in-5
 cells-requires-in-5 c = first_asks c.requires.0 5 c.in-5.is _ _ (omega arith)
@@ -53,8 +71,14 @@ overflow_mul-k-in-5 c =
     omega (arith, room_at c.args.m c.args.r (c.args.i + c.loop-j.j) (length c.args.dst.now) (omega arith) c.requires.2 5 c.in-5.is)
 
 pub spread-requires-in-5 : goal.spread-requires-in-5
-spread-requires-in-5 c =
-    (omega arith, omega (arith, room_at c.args.m c.args.r (c.args.i + c.loop-j.j) (length c.args.dst.now) (omega arith) c.requires.2 5 c.in-5.is, c.loop-j.invariant.1))
+spread-requires-in-5 c = (
+  omega arith,
+  omega (
+    arith,
+    room_at c.args.m c.args.r (c.args.i + c.loop-j.j) (length c.args.dst.now) (omega arith) c.requires.2 5 c.in-5.is,
+    c.loop-j.invariant.1,
+  ),
+)
 
 pub cells-requires-in-7 : goal.cells-requires-in-7
 cells-requires-in-7 c = first_asks c.requires.0 7 c.in-7.is _ _ (omega arith)
@@ -64,19 +88,70 @@ overflow_mul-k-in-7 c =
     omega (arith, room_at c.args.m c.args.r (c.args.i + c.loop-j.j) (length c.args.dst.now) (omega arith) c.requires.2 7 c.in-7.is)
 
 pub spread-requires-in-7 : goal.spread-requires-in-7
-spread-requires-in-7 c =
-    (omega arith, omega (arith, room_at c.args.m c.args.r (c.args.i + c.loop-j.j) (length c.args.dst.now) (omega arith) c.requires.2 7 c.in-7.is, c.loop-j.invariant.1))
+spread-requires-in-7 c = (
+  omega arith,
+  omega (
+    arith,
+    room_at c.args.m c.args.r (c.args.i + c.loop-j.j) (length c.args.dst.now) (omega arith) c.requires.2 7 c.in-7.is,
+    c.loop-j.invariant.1,
+  ),
+)
 
 pub cells-requires-in_default : goal.cells-requires-in_default
-cells-requires-in_default c = first_asks c.requires.0 8 (other c.requires.0 (((((tt {0}, λ (e : c.args.r ≡ 2). omega arith), λ (e : c.args.r ≡ 3). omega arith), λ (e : c.args.r ≡ 4). omega arith), λ (e : c.args.r ≡ 5). omega arith), λ (e : c.args.r ≡ 7). omega arith)) _ _ (omega arith)
+cells-requires-in_default c = first_asks c.requires.0 8 (other c.requires.0 (
+  (
+    (
+      (
+        (tt {0}, λ (e : c.args.r ≡ 2). omega arith),
+        λ (e : c.args.r ≡ 3). omega
+            arith,
+      ),
+      λ (e : c.args.r ≡ 4). omega arith,
+    ),
+    λ (e : c.args.r ≡ 5). omega arith,
+  ),
+  λ (e : c.args.r ≡ 7). omega arith,
+)) _ _ (omega arith)
 
 pub overflow_mul-k-in_default : goal.overflow_mul-k-in_default
 overflow_mul-k-in_default c =
-    omega (arith, room_at c.args.m c.args.r (c.args.i + c.loop-j.j) (length c.args.dst.now) (omega arith) c.requires.2 8 (other c.requires.0 (((((tt {0}, λ (e : c.args.r ≡ 2). omega arith), λ (e : c.args.r ≡ 3). omega arith), λ (e : c.args.r ≡ 4). omega arith), λ (e : c.args.r ≡ 5). omega arith), λ (e : c.args.r ≡ 7). omega arith)))
+    omega (
+      arith,
+      room_at c.args.m c.args.r (c.args.i + c.loop-j.j) (length c.args.dst.now) (omega arith) c.requires.2 8 (other c.requires.0 (
+        (
+          (
+            (
+              (
+                tt {0},
+                λ (e : c.args.r ≡ 2). omega arith,
+              ),
+              λ (e : c.args.r ≡ 3). omega arith,
+            ),
+            λ (e : c.args.r ≡ 4). omega arith,
+          ),
+          λ (e : c.args.r ≡ 5). omega arith,
+        ),
+        λ
+            (e : c.args.r ≡ 7). omega arith,
+      )),
+    )
 
 pub spread-requires-in_default : goal.spread-requires-in_default
-spread-requires-in_default c =
-    (omega arith, omega (arith, room_at c.args.m c.args.r (c.args.i + c.loop-j.j) (length c.args.dst.now) (omega arith) c.requires.2 8 (other c.requires.0 (((((tt {0}, λ (e : c.args.r ≡ 2). omega arith), λ (e : c.args.r ≡ 3). omega arith), λ (e : c.args.r ≡ 4). omega arith), λ (e : c.args.r ≡ 5). omega arith), λ (e : c.args.r ≡ 7). omega arith)), c.loop-j.invariant.1))
+spread-requires-in_default c = (
+  omega arith,
+  omega (
+    arith,
+    room_at c.args.m c.args.r (c.args.i + c.loop-j.j) (length c.args.dst.now) (omega arith) c.requires.2 8 (other c.requires.0 (
+      (
+        (((tt {0}, λ (e : c.args.r ≡ 2). omega arith), λ (e : c.args.r ≡ 3). omega arith), λ (e : c.args.r ≡ 4). omega arith),
+        λ (e : c.args.r ≡ 5).
+            omega arith,
+      ),
+      λ (e : c.args.r ≡ 7). omega arith,
+    )),
+    c.loop-j.invariant.1,
+  ),
+)
 
 pub outputs-requires-in_default : goal.outputs-requires-in_default
 unfolding is_radix
@@ -95,7 +170,18 @@ loop-j-preserved c =
       | in-4 w ↦ arm 4 w.in-4.is w.cells-in-4.result w.outputs-in-4.result w.cells-in-4.ensures w.outputs-in-4.ensures _ w.spread-in-4.ensures w.dst-is
       | in-5 w ↦ arm 5 w.in-5.is w.cells-in-5.result w.outputs-in-5.result w.cells-in-5.ensures w.outputs-in-5.ensures _ w.spread-in-5.ensures w.dst-is
       | in-7 w ↦ arm 7 w.in-7.is w.cells-in-7.result w.outputs-in-7.result w.cells-in-7.ensures w.outputs-in-7.ensures _ w.spread-in-7.ensures w.dst-is
-      | in_default w ↦ arm 8 (other c.requires.0 (((((tt {0}, λ (e : c.args.r ≡ 2). omega arith), λ (e : c.args.r ≡ 3). omega arith), λ (e : c.args.r ≡ 4). omega arith), λ (e : c.args.r ≡ 5). omega arith), λ (e : c.args.r ≡ 7). omega arith)) w.cells-in_default.result w.outputs-in_default.result w.cells-in_default.ensures w.outputs-in_default.ensures _ w.spread-in_default.ensures w.dst-is
+      | in_default w ↦ arm 8 (other c.requires.0 (
+        (
+          (
+            ((tt {0}, λ (e : c.args.r ≡ 2). omega arith), λ (e : c.args.r ≡ 3). omega arith),
+            λ (e : c.args.r ≡
+                4). omega arith,
+          ),
+          λ (e : c.args.r ≡ 5). omega arith,
+        ),
+        λ (e : c.args.r ≡ 7). omega arith,
+      )) w.cells-in_default.result w.outputs-in_default.result
+          w.cells-in_default.ensures w.outputs-in_default.ensures _ w.spread-in_default.ensures w.dst-is
     ] in (
       omega arith,
       (w (λ i q. blank)).size ∙ l.invariant.1,

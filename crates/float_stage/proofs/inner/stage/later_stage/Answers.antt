@@ -41,18 +41,19 @@ by_fours-at-requires c = let e = c.evenly-even.ensures in let n = c.in_fours-end
     (c.requires.0, c.requires.1.lent, c.requires.3, e.0, e.1, f.0, f.1, c.requires.1.later)
 
 pub by_sixteens-requires : goal.by_sixteens-requires
-by_sixteens-requires c = let a = c.args in let e = c.evenly-even in let n = c.in_fours-end in let f = whole_fours a.w a.m n.ensures.1 n.ensures.2 in let j = in-lanes (goal.at.by_sixteens-requires c).Joined-end-gt0 in (
-  c.requires.0,
-  c.requires.1,
-  c.requires.2,
-  rw j.0 c.requires.3,
-  e.ensures.0,
-  e.ensures.1,
-  n.ensures.0,
-  λ x. omega (arith, n.ensures.1 x),
-  even_fours e.result a.s n.result e.ensures.1 f.1,
-  j.1,
-)
+by_sixteens-requires c = let a = c.args in let e = c.evenly-even in let n = c.in_fours-end in let f = whole_fours a.w a.m n.ensures.1 n.ensures.2 in let j
+    = in-lanes (goal.at.by_sixteens-requires c).Joined-end-gt0 in (
+      c.requires.0,
+      c.requires.1,
+      c.requires.2,
+      rw j.0 c.requires.3,
+      e.ensures.0,
+      e.ensures.1,
+      n.ensures.0,
+      λ x. omega (arith, n.ensures.1 x),
+      even_fours e.result a.s n.result e.ensures.1 f.1,
+      j.1,
+    )
 
 pub shape_of-dst-then-end-m : goal.shape_of-dst-then-end-m
 shape_of-dst-then-end-m c = c.by_sixteens.auto.dst ∙ (in-lanes (goal.at.shape_of-dst-then-end-m c).Joined-end-gt0).0

@@ -56,7 +56,15 @@ loop-j-preserved c =
         | in-4 w ↦ low 4 w.in-4.is w.cells-in-4.result w.cells-in-4.ensures _ _ _ _ _ _ (omega arith) w.save-in-4.ensures w.ra-is w.ia-is w.rb-is w.ib-is
         | in-5 w ↦ low 5 w.in-5.is w.cells-in-5.result w.cells-in-5.ensures _ _ _ _ _ _ (omega arith) w.save-in-5.ensures w.ra-is w.ia-is w.rb-is w.ib-is
         | in-7 w ↦ high 7 w.in-7.is w.cells-in-7.result w.cells-in-7.ensures _ _ _ _ _ _ (omega arith) w.save-in-7.ensures w.ra-is w.ia-is w.rb-is w.ib-is
-        | in_default w ↦ high 8 (later_other c.requires.0 c.requires.5 ((((tt {0}, λ (e : a.r ≡ 3). omega arith), λ (e : a.r ≡ 4). omega arith), λ (e : a.r ≡ 5). omega arith), λ (e : a.r ≡ 7). omega arith)) w.cells-in_default.result w.cells-in_default.ensures _ _ _ _ _ _ (omega arith) w.save-in_default.ensures w.ra-is w.ia-is w.rb-is w.ib-is
+        | in_default w ↦ high 8 (later_other c.requires.0 c.requires.5 (
+          (
+            ((tt {0}, λ (e : a.r ≡ 3). omega arith), λ (e : a.r ≡ 4). omega arith),
+            λ (e :
+                a.r ≡ 5). omega arith,
+          ),
+          λ (e : a.r ≡ 7). omega arith,
+        )) w.cells-in_default.result w.cells-in_default.ensures _ _ _ _ _ _ (omega arith)
+            w.save-in_default.ensures w.ra-is w.ia-is w.rb-is w.ib-is
       ],
     )
 

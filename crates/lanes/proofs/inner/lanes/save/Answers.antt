@@ -36,5 +36,6 @@ pub shape_of-im : goal.shape_of-im
 shape_of-im c = c.loop-q.invariant.2.size_im ∙ c.loop-p.invariant.2.size_im
 
 pub returns : goal.returns
-returns c = let r = c.args.r in let odd = c.loop-q in let even = c.loop-p in saved_both _ _ _ _ r (every_end _ 0 _ _ _ even.p r even.invariant.1 (omega (arith, c.loop-p-test.false)) even.invariant.0 even.invariant.2)
+returns c = let r = c.args.r in let odd = c.loop-q in let even = c.loop-p in saved_both _ _ _ _ r (every_end _ 0 _ _ _ even.p r even.invariant.1 (omega
+    (arith, c.loop-p-test.false)) even.invariant.0 even.invariant.2)
     (every_end _ 1 _ _ _ odd.q r odd.invariant.1 (omega (arith, c.loop-q-test.false)) odd.invariant.0 odd.invariant.2)

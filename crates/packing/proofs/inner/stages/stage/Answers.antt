@@ -32,7 +32,11 @@ pub overflow_sub-r : goal.overflow_sub-r
 overflow_sub-r c = omega (arith, c.requires.1.two)
 
 pub iteration-requires : goal.iteration-requires
-iteration-requires c = let l = c.loop-i in (c.requires.0, rw l.invariant.1 (lane_turnable _ _ _ _ _ c.requires.1 l.i c.loop-i-test.true _ (c.lane_of-l.ensures _ refl)))
+iteration-requires c = let l = c.loop-i in (
+  c.requires.0,
+  rw l.invariant.1 (lane_turnable _ _ _ _ _ c.requires.1 l.i c.loop-i-test.true _
+      (c.lane_of-l.ensures _ refl)),
+)
 
 pub loop-i-preserved : goal.loop-i-preserved
 loop-i-preserved c = let l = c.loop-i in let next = stage_next _ _ _ _ _ c.requires.1 l.i c.loop-i-test.true _ (c.lane_of-l.ensures _ refl)

@@ -16,7 +16,8 @@ ends-requires c = let a = c.args in let t = taken a.plan a.width _ _ _ c.lent.en
 )
 
 pub returns-in-Accepted : goal.returns-in-Accepted
-returns-in-Accepted c = let a = c.args in let told = c.lent.ensures in let accepted = c.in-Accepted.is in fill_accepted a.direction a.plan a.width (a.stage_twiddles.now, a.end_twiddles.now) _ told accepted _ _ c.stages.ensures
+returns-in-Accepted c = let a = c.args in let told = c.lent.ensures in let accepted = c.in-Accepted.is in fill_accepted a.direction a.plan a.width
+    (a.stage_twiddles.now, a.end_twiddles.now) _ told accepted _ _ c.stages.ensures
     c.ends.ensures
 
 pub returns-in-Refused : goal.returns-in-Refused
