@@ -1,8 +1,7 @@
 -- `kernel::inner::kernel::cells` meets its contract. Assumes nothing.
-use Rattle.sequences.proofs.Basics.{◌≡◌, refl, ◌∙◌, ℕ, ◌+◌, ◌-◌, ◌*◌, ◌≤◌, ◌<◌, arith, false, ⊎_elim, get_or, length, length-set, rules}
+use Rattle.sequences.proofs.Basics.{◌≡◌, refl, ◌∙◌, arith, length-set}
 use Rattle.sequences.proofs.Tables.{set_more}
-use Rattle.floats.specs.declared.complex.Complex.{Complex}
-use Rattle.floats.specs.Complexes.{blank, cell}
+use Rattle.floats.specs.Complexes.{blank}
 use Rattle.kernel.specs.Parts.{read_of}
 use Rattle.kernel.proofs.Kernel.{cell_room, read_plain, read_times}
 use Rattle.kernel.proofs.inner.kernel.cells.Goals as goal

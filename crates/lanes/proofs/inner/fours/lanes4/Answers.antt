@@ -1,8 +1,7 @@
 -- `lanes::inner::fours::lanes4` meets its contract. Assumes nothing.
-use Rattle.sequences.proofs.Basics.{◌≡◌, refl, ◌-◌, ◌≤◌, ◌<◌, arith, rules}
+use Rattle.sequences.proofs.Basics.{◌≡◌, refl, ◌<◌, arith, rules}
 use Rattle.radices.specs.Lists.{is_radix}
-use Rattle.lanes.specs.Parts.{Fetched4}
-use Rattle.lanes.proofs.Arms.{later_other, four_asks, Kept, kept_none, kept_all, low_arm, high_arm}
+use Rattle.lanes.proofs.Arms.{later_other, four_asks, kept_none, kept_all, low_arm, high_arm}
 use Rattle.lanes.proofs.inner.fours.lanes4.Goals as goal
 use Rattle.lanes.proofs.inner.fours.lanes4.Goals.{in-3, in-4, in-5, in-7, in_default}
 

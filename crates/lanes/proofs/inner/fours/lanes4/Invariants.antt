@@ -1,8 +1,7 @@
 -- `lanes::inner::fours::lanes4` meets its contract. Assumes nothing.
-use Rattle.sequences.proofs.Basics.{◌-◌, ◌≤◌, ◌<◌, arith, ⊎_elim, rules}
-use Rattle.radices.specs.Lists.{is_radix}
+use Rattle.sequences.proofs.Basics.{◌-◌, ◌≤◌}
 use Rattle.lanes.specs.Parts.{Fetched4}
-use Rattle.lanes.proofs.Arms.{later_other, four_asks, Kept, kept_none, kept_all, low_arm, high_arm}
+use Rattle.lanes.proofs.Arms.{Kept}
 use Rattle.lanes.proofs.inner.fours.lanes4.Given as goal
 
 abbrev pub invariant-loop-j : goal.invariant-loop-j

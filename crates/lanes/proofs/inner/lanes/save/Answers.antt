@@ -1,9 +1,5 @@
 -- `lanes::inner::lanes::save` meets its contract. Assumes nothing.
-use Rattle.sequences.proofs.Basics.{◌≡◌, refl, ◌∙◌, ◌+◌, ◌-◌, ◌%◌, ◌≤◌, arith, get_or, rules}
-use Rattle.schedule.specs.Parts.{Every}
-use Rattle.floats.specs.Complexes.{blank}
-use Rattle.kernel.specs.Parts.{kernel_of}
-use Rattle.lanes.specs.Parts.{Taken}
+use Rattle.sequences.proofs.Basics.{refl, ◌∙◌, arith}
 use Rattle.lanes.proofs.Writes.{every_none, every_step, every_end, saved_both}
 use Rattle.lanes.proofs.inner.lanes.save.Goals as goal
 
