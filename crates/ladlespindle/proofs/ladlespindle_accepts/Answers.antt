@@ -1,5 +1,4 @@
 -- `ladlespindle_accepts` meets its promise: each arm answers as `accepts` does. Assumes nothing.
-use Rattle.sequences.proofs.Basics.{rules}
 use Rattle.ladlespindle.proofs.Answers.{accepts_one, accepts_none}
 use Rattle.ladlespindle.proofs.ladlespindle_accepts.Goals as goal
 

@@ -1,5 +1,4 @@
 -- `ladlespindle_end_twiddles` meets its promise: the count of the record that planning answers. Assumes nothing.
-use Rattle.sequences.proofs.Basics.{rules}
 use Rattle.counts.specs.Counts.{end_count}
 use Rattle.plan.specs.declared.Record.{Record}
 use Rattle.ladlespindle.proofs.Answers.{count_for_lem}

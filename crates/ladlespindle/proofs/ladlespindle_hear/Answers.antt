@@ -1,5 +1,5 @@
 -- `ladlespindle::ladlespindle_hear` meets its contract. Assumes nothing.
-use Rattle.sequences.proofs.Basics.{ap, ◌∙◌, rules}
+use Rattle.sequences.proofs.Basics.{ap, ◌∙◌}
 use Rattle.ladlespindle.specs.Calls.{heard_as, crossed_heard}
 use Rattle.ladlespindle.proofs.ladlespindle_hear.Goals as goal
 

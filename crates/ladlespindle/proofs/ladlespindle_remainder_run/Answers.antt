@@ -1,6 +1,5 @@
 -- `ladlespindle::ladlespindle_remainder_run` meets its contract. Assumes nothing.
 use Rattle.ladlespindle.proofs.Crossing.{run_crossed}
-use Rattle.sequences.proofs.Basics.{rules}
 use Rattle.ladlespindle.proofs.ladlespindle_remainder_run.Goals as goal
 
 pub returns : goal.returns

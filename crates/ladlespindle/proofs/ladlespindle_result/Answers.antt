@@ -1,5 +1,5 @@
 -- `ladlespindle_result` meets its promise: the buffer of the record that planning answers, as a number. Assumes nothing.
-use Rattle.sequences.proofs.Basics.{◌∙◌, rules}
+use Rattle.sequences.proofs.Basics.{◌∙◌}
 use Rattle.counts.specs.Counts.{result_in}
 use Rattle.plan.specs.declared.Record.{Record}
 use Rattle.ladlespindle.proofs.Answers.{buffer_for}

@@ -1,5 +1,4 @@
 -- `ladlespindle_scale` meets its promise: the answer of scaling, with the verdict as its two numbers. Assumes nothing.
-use Rattle.sequences.proofs.Basics.{rules}
 use Rattle.ladlespindle.proofs.Answers.{crossed_by}
 use Rattle.ladlespindle.proofs.ladlespindle_scale.Goals as goal
 

@@ -1,6 +1,5 @@
 -- `ladlespindle::ladlespindle_stage` meets its contract. Assumes nothing.
 use Rattle.ladlespindle.proofs.Crossing.{crossed_over}
-use Rattle.sequences.proofs.Basics.{rules}
 use Rattle.ladlespindle.proofs.ladlespindle_stage.Goals as goal
 
 pub returns : goal.returns

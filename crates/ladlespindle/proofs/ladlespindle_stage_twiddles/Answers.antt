@@ -1,5 +1,4 @@
 -- `ladlespindle_stage_twiddles` meets its promise: the count of the record that planning answers. Assumes nothing.
-use Rattle.sequences.proofs.Basics.{rules}
 use Rattle.counts.specs.Counts.{stage_twiddles}
 use Rattle.ladlespindle.proofs.Answers.{count_for_lem}
 use Rattle.ladlespindle.proofs.ladlespindle_stage_twiddles.Goals as goal

@@ -1,5 +1,5 @@
 -- `spectrum::inner::check::numbers` meets its contract. Assumes nothing.
-use Rattle.sequences.proofs.Basics.{refl, ◌+◌, ◌<◌, ◌≤◌, arith, ◌++◌, length, length-append, rules}
+use Rattle.sequences.proofs.Basics.{refl, ◌+◌, ◌<◌, ◌≤◌, arith, ◌++◌, length, length-append}
 use lib.Ieee.{of_bits}
 use Rattle.refusal.proofs.Rows.{deciding}
 use Rattle.spectrum.specs.Calls.{number_verdict}

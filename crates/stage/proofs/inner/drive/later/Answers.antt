@@ -1,5 +1,5 @@
 -- `stage::inner::drive::later` meets its contract. Assumes nothing.
-use Rattle.sequences.proofs.Basics.{◌≡◌, sym, ap, ◌∙◌, ◌+◌, ◌-◌, ◌*◌, ◌≤◌, ◌<◌, le_of_lt, arith, ⊎_elim, length, rules}
+use Rattle.sequences.proofs.Basics.{◌≡◌, sym, ap, ◌∙◌, ◌+◌, ◌-◌, ◌*◌, ◌≤◌, ◌<◌, le_of_lt, arith, ⊎_elim, length}
 use Rattle.sequences.proofs.Pasted.{whole_pasted}
 use Rattle.counts.specs.Counts.{twiddle_start}
 use Rattle.counts.proofs.Counts.{count_small, start_next, start_none, start_few}
