@@ -1,5 +1,5 @@
 -- `levels::inner::levels::level_of` meets its contract. Assumes nothing.
-use Rattle.sequences.proofs.Basics.{ap₂, ℕ, ◌+◌, ◌-◌, ◌/◌, arith, eq-eqb, ne_eqb, rules}
+use Rattle.sequences.proofs.Basics.{ap₂, ℕ, ◌+◌, ◌-◌, ◌/◌, arith, eq-eqb, ne_eqb}
 use Rattle.levels.specs.Levels.{level_of}
 use Rattle.levels.proofs.inner.levels.level_of.Goals as goal
 

@@ -1,7 +1,6 @@
 -- `levels::inner::levels::lowest_above` meets its contract. Assumes nothing.
-use Rattle.sequences.proofs.Basics.{◌≡◌, refl, sym, ◌∙◌, ◌-◌, ◌≤◌, arith, rules}
-use Rattle.levels.specs.Levels.{is_above, least_step, lowest}
-use Rattle.levels.proofs.Lowest.{lowest_here, lowest_later, lowest_last}
+use Rattle.sequences.proofs.Basics.{◌≡◌, ◌-◌, ◌≤◌}
+use Rattle.levels.specs.Levels.{lowest}
 use Rattle.levels.proofs.inner.levels.lowest_above.Given as goal
 
 abbrev pub invariant-loop-at : goal.invariant-loop-at

@@ -1,5 +1,5 @@
 -- `levels::inner::levels::part` meets its contract. Assumes nothing.
-use Rattle.sequences.proofs.Basics.{refl, arith, rules}
+use Rattle.sequences.proofs.Basics.{refl, arith}
 use Rattle.levels.specs.Parts.{parts}
 use Rattle.levels.proofs.Parts.{part_between}
 use Rattle.levels.proofs.inner.levels.part.Goals as goal

@@ -1,6 +1,5 @@
 -- `levels::inner::levels::part_at_least` meets its contract. Assumes nothing.
-use Rattle.sequences.proofs.Basics.{◌≡◌, sym, ◌+◌, ◌-◌, ◌≤◌, zero-add, leb, drop, le-leb, lt-leb, rules}
-use Rattle.sequences.specs.Lists.{first_that}
+use Rattle.sequences.proofs.Basics.{sym, zero-add, leb, le-leb, lt-leb, rules}
 use Rattle.sequences.proofs.First.{first_skip, first_here, first_none}
 use Rattle.levels.specs.Parts.{parts}
 use Rattle.levels.specs.Levels.{part_at_least}

@@ -1,9 +1,7 @@
 -- `levels::inner::levels::part_at_least` meets its contract. Assumes nothing.
-use Rattle.sequences.proofs.Basics.{◌≡◌, sym, ◌+◌, ◌-◌, ◌≤◌, zero-add, leb, drop, le-leb, lt-leb, rules}
+use Rattle.sequences.proofs.Basics.{◌≡◌, ◌+◌, ◌-◌, ◌≤◌, leb, drop}
 use Rattle.sequences.specs.Lists.{first_that}
-use Rattle.sequences.proofs.First.{first_skip, first_here, first_none}
 use Rattle.levels.specs.Parts.{parts}
-use Rattle.levels.specs.Levels.{part_at_least}
 use Rattle.levels.proofs.inner.levels.part_at_least.Given as goal
 
 abbrev pub invariant-loop-k : goal.invariant-loop-k

@@ -1,5 +1,4 @@
 -- `levels::inner::levels::power_at` meets its contract. Assumes nothing.
-use Rattle.sequences.proofs.Basics.{rules}
 use Rattle.levels.proofs.Steps.{finite_step}
 use Rattle.levels.proofs.inner.levels.power_at.Goals as goal
 

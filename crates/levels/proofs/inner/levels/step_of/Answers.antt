@@ -8,11 +8,11 @@ pub float_to_bits-result : goal.float_to_bits-result
 float_to_bits-result c = no_nan _ _ c.if-power.true
 
 pub overflow_cast-result : goal.overflow_cast-result
-overflow_cast-result c = omega (arith, upper_half c.args.power c.before.good.0.1)
+overflow_cast-result c = omega (arith, upper_half c.args.power c.well_formed.0.1)
 
 pub returns-then-power : goal.returns-then-power
 unfolding step_of
-returns-then-power c = (rw c.if-power.true, upper_half c.args.power c.before.good.0.1)
+returns-then-power c = (rw c.if-power.true, upper_half c.args.power c.well_formed.0.1)
 
 pub returns : goal.returns
 unfolding step_of

@@ -1,5 +1,5 @@
 -- `levels::inner::levels::units_of` meets its contract. Assumes nothing.
-use Rattle.sequences.proofs.Basics.{ap, ℕ, ◌+◌, ◌*◌, ◌/◌, arith, rules}
+use Rattle.sequences.proofs.Basics.{ap, ℕ, ◌+◌, ◌*◌, ◌/◌, arith}
 use Rattle.levels.specs.Levels.{units_of}
 use Rattle.levels.proofs.inner.levels.units_of.Goals as goal
 

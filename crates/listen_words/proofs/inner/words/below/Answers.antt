@@ -1,5 +1,4 @@
 -- `listen_words::inner::words::below` meets its contract. Assumes nothing.
-use Rattle.sequences.proofs.Basics.{rules}
 use Rattle.listen_words.specs.Words.{below_of}
 use Rattle.listen_words.proofs.Choosing.{choosing}
 use Rattle.listen_words.proofs.inner.words.below.Goals as goal

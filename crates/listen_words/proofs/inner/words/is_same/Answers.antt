@@ -1,6 +1,5 @@
 -- `listen_words::inner::words::is_same` meets its contract. Assumes nothing.
-use Rattle.sequences.proofs.Basics.{◌≡◌, refl, sym, ◌∙◌, ◌-◌, ◌≤◌, length, drop, rules}
-use Rattle.listen_words.specs.Words.{same_as}
+use Rattle.sequences.proofs.Basics.{refl, sym, ◌∙◌, rules}
 use Rattle.listen_words.proofs.Same.{lengths_differ, same_all, same_next, same_not}
 use Rattle.listen_words.proofs.inner.words.is_same.Goals as goal
 

@@ -1,7 +1,6 @@
 -- `listen_words::inner::words::is_same` meets its contract. Assumes nothing.
-use Rattle.sequences.proofs.Basics.{◌≡◌, refl, sym, ◌∙◌, ◌-◌, ◌≤◌, length, drop, rules}
+use Rattle.sequences.proofs.Basics.{◌≡◌, ◌-◌, ◌≤◌, length, drop}
 use Rattle.listen_words.specs.Words.{same_as}
-use Rattle.listen_words.proofs.Same.{lengths_differ, same_all, same_next, same_not}
 use Rattle.listen_words.proofs.inner.words.is_same.Given as goal
 
 abbrev pub invariant-loop-i : goal.invariant-loop-i

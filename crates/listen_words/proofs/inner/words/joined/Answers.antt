@@ -1,5 +1,4 @@
 -- `listen_words::inner::words::joined` meets its contract. Assumes nothing.
-use Rattle.sequences.proofs.Basics.{rules}
 use Rattle.listen_words.specs.Words.{joined_of}
 use Rattle.listen_words.proofs.Choosing.{choosing}
 use Rattle.listen_words.proofs.inner.words.joined.Goals as goal

@@ -1,5 +1,5 @@
 -- `listen_words::inner::words::level_of` meets its contract. Assumes nothing.
-use Rattle.sequences.proofs.Basics.{sym, ap, ◌∙◌, rules}
+use Rattle.sequences.proofs.Basics.{sym, ap, ◌∙◌}
 use Rattle.sequences.proofs.Pasted.{take_rest}
 use Rattle.listen_words.specs.Words.{tenths_of, below_of, above_of}
 use Rattle.listen_words.proofs.Signs.{level_none, level_below, level_above}

@@ -1,15 +1,9 @@
 -- `listen_words::inner::words::number_of` meets its contract. Assumes nothing.
-use Rattle.sequences.proofs.Basics.{◌≡◌, sym, ◌∙◌, ◌-◌, ◌^◌, ◌<◌, ◌≤◌, add-one, arith, length, drop, rules}
-use Rattle.listen_words.specs.Words.{digits_from, number_of}
+use Rattle.sequences.proofs.Basics.{sym, ◌∙◌, add-one, arith, rules}
+use Rattle.listen_words.specs.Words.{number_of}
 use Rattle.listen_words.proofs.Choosing.{choosing}
 use Rattle.listen_words.proofs.Digits.{number_digits, digits_all, digits_none, digits_next, below_nine}
 use Rattle.listen_words.proofs.inner.words.number_of.Goals as goal
-
--- the digits so far make a number below 10 ^ 8
-small : (c : fn.Tie.Else4 Inv-loop μ-loop) → c.before.before.before.before.loop.value < 10 ^ 8
-small c =
-    let l = c.before.before.before.before.loop in
-    below_nine l.value l.i (search rules) l.inv.1
 
 pub returns-then-n-eq0 : goal.returns-then-n-eq0
 unfolding number_of
@@ -29,10 +23,10 @@ pub returns-then-b-gt57 : goal.returns-then-b-gt57
 returns-then-b-gt57 c = c.none-then-b-gt57.ensures ∙ sym (c.loop-i.invariant.2 ∙ digits_none _ _ c.loop-i.i c.loop-i-test.true (search choosing))
 
 pub overflow_mul-value : goal.overflow_mul-value
-overflow_mul-value c = omega (arith, small c)
+overflow_mul-value c = let l = c.loop-i in omega (arith, below_nine l.value l.i (search rules) l.invariant.1)
 
 pub overflow_add-value : goal.overflow_add-value
-overflow_add-value c = omega (arith, small c)
+overflow_add-value c = let l = c.loop-i in omega (arith, below_nine l.value l.i (search rules) l.invariant.1)
 
 pub loop-i-preserved : goal.loop-i-preserved
 loop-i-preserved c = let l = c.loop-i in (search rules, rw add-one (omega arith), l.invariant.2 ∙ digits_next _ _ l.i c.loop-i-test.true (search choosing))

@@ -1,8 +1,6 @@
 -- `listen_words::inner::words::number_of` meets its contract. Assumes nothing.
-use Rattle.sequences.proofs.Basics.{◌≡◌, sym, ◌∙◌, ◌-◌, ◌^◌, ◌<◌, ◌≤◌, add-one, arith, length, drop, rules}
+use Rattle.sequences.proofs.Basics.{◌≡◌, ◌-◌, ◌^◌, ◌<◌, ◌≤◌, length, drop}
 use Rattle.listen_words.specs.Words.{digits_from, number_of}
-use Rattle.listen_words.proofs.Choosing.{choosing}
-use Rattle.listen_words.proofs.Digits.{number_digits, digits_all, digits_none, digits_next, below_nine}
 use Rattle.listen_words.proofs.inner.words.number_of.Given as goal
 
 abbrev pub invariant-loop-i : goal.invariant-loop-i
