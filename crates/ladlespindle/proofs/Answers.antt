@@ -5,7 +5,8 @@ use Rattle.refusal.specs.declared.Verdict.{Verdict}
 use Rattle.refusal.specs.declared.Verdict.TheVariants.{Accepted, Refused}
 use Rattle.radices.specs.Lists.{product, count_of, padded, eq_list}
 use Rattle.merging.specs.Merging.{tally, sorted}
-use Rattle.plan.specs.Record.{plan_verdict, record_of, no_record, accepted_plan, refused_plan, planned_by, planned, Plannable, Accepts, in_order, sized, is_planned}
+use Rattle.plan.specs.Record.{plan_verdict, record_of, no_record, accepted_plan, refused_plan, planned_by, planned, Plannable, Accepts, in_order}
+use Rattle.plan.specs.Record.{sized, is_planned}
 use Rattle.counts.specs.Counts.{record_verdict, counted, located, buffer_number}
 use Rattle.plan.specs.declared.Record.{Record}
 use Rattle.plan.specs.declared.Planned.{Planned}

@@ -7,7 +7,8 @@ use Rattle.spectrum.proofs.forward.Goals as goal
 
 pub forward-requires : goal.forward-requires
 unfolding of_bits
-forward-requires c = let a = c.args in forwardable a.plan a.width a.input.now (length a.output.now) (length a.scratch.now) a.stage_twiddles.now a.end_twiddles.now _
+forward-requires c = let a = c.args in forwardable a.plan a.width a.input.now (length a.output.now) (length a.scratch.now) a.stage_twiddles.now
+    a.end_twiddles.now _
     (rw c.is_bins-is_output.ensures at (c.lent.ensures 32 refl)) c.in-Accepted.is
 
 pub returns-in-Accepted : goal.returns-in-Accepted

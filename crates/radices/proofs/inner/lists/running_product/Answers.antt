@@ -1,7 +1,6 @@
 -- `radices::inner::lists::running_product` meets its contract. Assumes nothing.
 use Rattle.sequences.proofs.Basics.{refl, sym, ap, ◌∙◌, ℕ, ◌*◌, arith, get_or, rules}
 use Rattle.radices.proofs.Lists.{product_next, over_skip, over_here, over_none, running_at, byte_fits}
-use Rattle.radices.specs.Lists.{first_over, largest}
 use Rattle.radices.specs.Lists
 use Rattle.radices.proofs.inner.lists.running_product.Goals as goal
 

@@ -1,5 +1,5 @@
 -- `stage::inner::drive::all` meets its contract. Assumes nothing.
-use Rattle.sequences.proofs.Basics.{◌≡◌, refl, ap, ◌∙◌, arith, ⊎_elim, length}
+use Rattle.sequences.proofs.Basics.{◌≡◌, refl, ap, ◌∙◌, arith, length}
 use lib.Ieee.{Float}
 use Rattle.counts.proofs.Counts.{start_none}
 use Rattle.schedule.specs.Buffers.{Two}

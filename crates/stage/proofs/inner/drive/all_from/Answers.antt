@@ -1,5 +1,5 @@
 -- `stage::inner::drive::all_from` meets its contract. Assumes nothing.
-use Rattle.sequences.proofs.Basics.{◌≡◌, ap, ◌∙◌, arith, ⊎_elim, length}
+use Rattle.sequences.proofs.Basics.{◌≡◌, ap, ◌∙◌, arith, length}
 use lib.Ieee.{Float}
 use Rattle.sequences.proofs.Pasted.{whole_pasted}
 use Rattle.counts.proofs.Counts.{start_none}

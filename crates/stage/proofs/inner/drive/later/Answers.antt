@@ -1,7 +1,6 @@
 -- `stage::inner::drive::later` meets its contract. Assumes nothing.
-use Rattle.sequences.proofs.Basics.{◌≡◌, sym, ap, ◌∙◌, ◌+◌, ◌-◌, ◌*◌, ◌≤◌, ◌<◌, le_of_lt, arith, ⊎_elim, length}
+use Rattle.sequences.proofs.Basics.{◌≡◌, sym, ap, ◌∙◌, ◌+◌, ◌-◌, ◌*◌, le_of_lt, arith, length}
 use Rattle.sequences.proofs.Pasted.{whole_pasted}
-use Rattle.counts.specs.Counts.{twiddle_start}
 use Rattle.counts.proofs.Counts.{count_small, start_next, start_none, start_few}
 use Rattle.stage.specs.Runs.{stage_in}
 use Rattle.stage.proofs.Runs.{steppable, length_made, Going, going_first, going_even, going_odd, gone_one, gone_all}

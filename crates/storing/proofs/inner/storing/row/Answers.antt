@@ -1,7 +1,5 @@
 -- `storing::inner::storing::row` meets its contract. Assumes nothing.
-use Rattle.sequences.proofs.Basics.{◌≡◌, refl, ◌+◌, ◌-◌, ◌*◌, ◌≤◌, ◌<◌, arith, length, rules}
-use Rattle.lanes.specs.Parts.{lane}
-use Rattle.storing.specs.Parts.{Wrote}
+use Rattle.sequences.proofs.Basics.{◌≡◌, refl, ◌+◌, ◌-◌, ◌*◌, ◌<◌, arith, length}
 use Rattle.storing.proofs.Writes.{wrote_none, wrote_step, wrote_all}
 use Rattle.storing.proofs.inner.storing.row.Goals as goal
 

@@ -1,8 +1,7 @@
 -- `storing::inner::storing::row` meets its contract. Assumes nothing.
-use Rattle.sequences.proofs.Basics.{◌≡◌, refl, ◌+◌, ◌-◌, ◌*◌, ◌≤◌, ◌<◌, arith, length, rules}
+use Rattle.sequences.proofs.Basics.{◌+◌, ◌-◌, ◌≤◌}
 use Rattle.lanes.specs.Parts.{lane}
 use Rattle.storing.specs.Parts.{Wrote}
-use Rattle.storing.proofs.Writes.{wrote_none, wrote_step, wrote_all}
 use Rattle.storing.proofs.inner.storing.row.Given as goal
 
 abbrev pub invariant-loop-t : goal.invariant-loop-t

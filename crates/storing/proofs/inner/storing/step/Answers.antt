@@ -1,5 +1,5 @@
 -- `storing::inner::storing::step` meets its contract. Assumes nothing.
-use Rattle.sequences.proofs.Basics.{◌+◌, ◌*◌, ◌^◌, ◌<◌, arith, rules}
+use Rattle.sequences.proofs.Basics.{arith}
 use Rattle.storing.proofs.Places.{picked, picked_size}
 use Rattle.storing.proofs.Batches.{waiting_asks, waiting_room, waiting_within, waiting_rows, waiting_next, waiting_done}
 use Rattle.storing.proofs.inner.storing.step.Goals as goal

@@ -1,6 +1,6 @@
 -- `storing::inner::storing::store` meets its contract. Assumes nothing.
-use Rattle.sequences.proofs.Basics.{◌-◌, arith}
-use Rattle.storing.proofs.Batches.{Storing, storing_none, storing_asks, storing_next, storing_all}
+use Rattle.sequences.proofs.Basics.{◌-◌}
+use Rattle.storing.proofs.Batches.{Storing}
 use Rattle.storing.proofs.inner.storing.store.Given as goal
 
 abbrev pub invariant-loop-next : goal.invariant-loop-next
