@@ -83,7 +83,8 @@ module _ (z : Complex) (ω : ℕ) (most : ω ≤ 2 ^ 220) (p : Around ((2 ^ 20 +
   raised x s h = off_more (2 ^ 37 * (m + m)) _ (scale_g (2 * 2 ^ 60) (real_g (val binary32 x))) (scale_g (2 * 2 ^ 60) (real_g s)) (radius ω)
       (off_same (2 ^ 37 * (m + m)) (scale_g (2 ^ 37) (scale_g (2 ^ 24) (real_g (val binary32 x)))) (scale_g (2 ^ 37) (scale_g (2 ^ 24) (real_g s)))
       (scale_g (2 * 2 ^ 60) (real_g (val binary32 x))) (scale_g (2 * 2 ^ 60) (real_g s))
-      (same_61 (real_g (val binary32 x))) (same_61 (real_g s)) (off_scale (2 ^ 37) (m + m) (scale_g (2 ^ 24) (real_g (val binary32 x))) (scale_g (2 ^ 24) (real_g s))
+      (same_61 (real_g (val binary32 x))) (same_61 (real_g s)) (off_scale (2 ^ 37) (m + m) (scale_g (2 ^ 24) (real_g (val binary32 x))) (scale_g (2 ^ 24)
+      (real_g s))
       (real_off (m + m) (scale (2 ^ 24) (val binary32 x)) (scale (2 ^ 24) s) h)))
 
   both : (abs_z (plus_z (val binary32 z.re) (val binary32 z.im)) ≤ m + m) × (abs_z (minus_z (val binary32 z.re) (val binary32 z.im)) ≤ m + m)

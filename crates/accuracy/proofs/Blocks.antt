@@ -46,7 +46,8 @@ module _ (G N : ℕ) (W : ℕ → Gauss) (turns : Turns G N W) (s : ℕ) (x : �
       bound : (b v : ℕ) → v ≤ 2 ^ 14 → v * (32 * G) * (2 ^ 20 * b) ≤ 2 ^ 39 * G * b
       bound b v h = omega (arith, mul-le-mul_right (G * b) h)
 
-  pub block_turned : Off (2 ^ 39 * G * sum_n s a) (times_g (sum_g s (λ u. times_g (x u) (W (e u)))) (W v)) (scale_g G (sum_g s (λ u. times_g (x u) (W (e u + v)))))
+  pub block_turned : Off (2 ^ 39 * G * sum_n s a) (times_g (sum_g s (λ u. times_g (x u) (W (e u)))) (W v)) (scale_g G (sum_g s (λ u. times_g (x u) (W (e u
+      + v)))))
   block_turned = off_more _ _ _ _ (le_of_eq (sum_n_times s a (2 ^ 39 * G)))
       (off_eq _ _ _ _ _ (sym (sum_times s (λ u. times_g (x u) (W (e u))) (W v))) (sym (sum_scale s (λ u. times_g (x u) (W (e u + v))) G))
       (off_sum s (λ u. 2 ^ 39 * G * a u) (λ u. times_g (times_g (x u) (W (e u))) (W v)) (λ u. scale_g G (times_g (x u) (W (e u + v)))) one_turned))

@@ -80,7 +80,8 @@ module _ (K H U : ℕ) (A B p₁ p₂ r : Signed) (x : NearZ (abs_z A + H * U) (
       let b : abs_z (scale K (minus_z A B)) ≡ K * abs_z (minus_z A B) = abs_scale K (minus_z A B) in
       let c : abs_z (minus_z A B) ≤ abs_z A + abs_z B = omega arith in
       let d : K * abs_z (minus_z A B) ≤ K * (abs_z A + abs_z B) = mul-le-mul_left K c in
-      let g : abs_z (scale (K * U) (minus_z p₁ p₂)) ≤ abs_z (scale K (minus_z A B)) + e₁ = within (scale (K * U) (minus_z p₁ p₂)) (scale K (minus_z A B)) both in
+      let g : abs_z (scale (K * U) (minus_z p₁ p₂)) ≤ abs_z (scale K (minus_z A B)) + e₁ = within (scale (K * U) (minus_z p₁ p₂)) (scale K (minus_z A B))
+      both in
       le_trans (le_of_eq (sym a)) (le_trans g (le_trans (le_of_eq (ap (λ (n : ℕ). n + e₁) b)) (add-le-add d (le_refl e₁))))
     where
       within : (u v : Signed) → NearZ e₁ u v → abs_z u ≤ abs_z v + e₁
@@ -120,7 +121,8 @@ thinner : (K m U : ℕ) (y z : Gauss) → 0 < K → Off (3 * (K * m * U)) (scale
     → Off (3 * (m * U)) (scale_g (K * U) y) (scale_g K z)
 thinner K m U y z h o = off_unscale K (3 * (m * U)) (scale_g (K * U) y) (scale_g K z) h
     (disc_more (3 * (K * m * U)) (K * (3 * (m * U))) _ (le_of_eq (omega arith))
-    (disc_same (3 * (K * m * U)) (minus_g (scale_g (K * K * U) y) (scale_g (K * K) z)) (minus_g (scale_g K (scale_g (K * U) y)) (scale_g K (scale_g K z))) (omega arith)
+    (disc_same (3 * (K * m * U)) (minus_g (scale_g (K * K * U) y) (scale_g (K * K) z)) (minus_g (scale_g K (scale_g (K * U) y)) (scale_g K (scale_g K z)))
+    (omega arith)
     (omega arith) o))
 
 module _ (z t : Complex) (m n : ℕ) (p : Around m z) (q : Around n t) (unit : n * 1024 ≤ 1025 * 2 ^ 149) (large : 1024 * (2 ^ 24 + 1) ≤ m)

@@ -110,7 +110,8 @@ half_near x hx l =
     let le : mag binary32 one_half * mag binary32 x ≤ 1 * 2 ^ 250 * 2 ^ 149 =
     le_trans (mul-le-mul one (le_trans (le_of_eq (mag_abs binary32 x)) l)) (le_of_eq (swap (2 ^ 149) (2 ^ 250))) in
     let r = (mul_rounds binary32 one_half x 1 250 refl hx (lit≤ tt) (lit< tt) le).0 in
-    let e : abs_z (times_z (val binary32 one_half) (val binary32 x)) ≡ 2 ^ 148 * abs_z (val binary32 x) = abs_times (val binary32 one_half) (val binary32 x) in (
+    let e : abs_z (times_z (val binary32 one_half) (val binary32 x)) ≡ 2 ^ 148 * abs_z (val binary32 x) = abs_times (val binary32 one_half) (val binary32
+    x) in (
       r.held,
       half_part (2 ^ 24) (2 ^ 23) (2 ^ 148) (abs_z (val binary32 x)) (val binary32 (mul binary32 one_half x)) (val binary32 x) (pow_pos 148)
           (subst (λ (m : ℕ). NearZ (m + 2 ^ 23 * (2 * 2 ^ 148)) (scale (2 ^ 24 * (2 * 2 ^ 148)) (val binary32 (mul binary32 one_half x)))
@@ -550,7 +551,8 @@ module _ (A B : Complex) (ω : ℕ) (least : 2 ^ 20 ≤ ω) (most : ω ≤ 2 ^ 2
         (conj_g (minus_g (scale_g (2 ^ 60) Q) (times_g (quarter P) w))) =
         off_same _ _ _ _ _ (same_left (2 * 2 ^ 60) (val_c Hf) (val_c Vf)) (same_self _) y in
         subst (λ (z : Complex). Held binary32 z.re × Held binary32 z.im
-        × Off ((13 * 2 ^ 57 + 2 ^ 50) * ω) (scale_g (2 * 2 ^ 60) (val_c z)) (conj_g (minus_g (scale_g (2 ^ 60) Q) (times_g (quarter P) w)))) (sym (far_is A B t))
+        × Off ((13 * 2 ^ 57 + 2 ^ 50) * ω) (scale_g (2 * 2 ^ 60) (val_c z)) (conj_g (minus_g (scale_g (2 ^ 60) Q) (times_g (quarter P) w)))) (sym (far_is
+        A B t))
         (o.0, o.1, off_more _ _ _ _ (end_radius ω least) (off_trans _ _ _ _ _ x₁ y'))
       where
         same_left : (k : ℕ) (z t : Gauss) → Same (conj_g (minus_g (scale_g k z) (scale_g k t))) (scale_g k (conj_g (minus_g z t)))

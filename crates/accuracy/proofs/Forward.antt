@@ -134,7 +134,8 @@ module _ (p : Record) (W : ℕ) (lent : Slices) (v : Verdict) (tw : Slices) (fil
         (run_held (d * 2) h told.pairs rs (use-product p told.planned) told.some told.eight told.short
         (pairsOf xs) pair_held a sized' least total k l)
 
-    ran_off : (k : ℕ) → k < h → Off (error rs (length rs) * sum_n h a) (scale_g (2 ^ 60) (val_c (cell (flat ran) k))) (dft house (d * 2) h (paired (sample xs)) k)
+    ran_off : (k : ℕ) → k < h → Off (error rs (length rs) * sum_n h a) (scale_g (2 ^ 60) (val_c (cell (flat ran) k))) (dft house (d * 2) h (paired (sample
+        xs)) k)
     unfolding dft
     ran_off k l = off_eq _ _ _ _ _ (ap (λ (z : Complex). scale_g (2 ^ 60) (val_c z)) (sym (ran_cell k l)))
         (sum_equal h _ _ (λ u m. ap (λ (z : Gauss). times_g z (house (d * 2 * (u * k)))) (pair_is u m)))

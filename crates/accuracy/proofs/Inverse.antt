@@ -1,6 +1,7 @@
 -- What an accepted inverse call leaves, with the twiddles of an accepted filling, sample by sample against the sum over the bins. Assumes nothing.
 use Rattle.sequences.proofs.Basics.{◌≡◌, refl, sym, ap, ap₂, ◌∙◌, subst, ℕ, ◌+◌, ◌-◌, ◌*◌, ◌/◌, ◌^◌, ◌≤◌, ◌<◌, le_trans, le_of_eq, le_of_lt, mul-le-mul_right}
-use Rattle.sequences.proofs.Basics.{mul-le-mul_left, le_of_mul-le-mul_right, arith, List, ◌++◌, lit≤, length, get_or, drop, length-append, length-drop, get_or-take}
+use Rattle.sequences.proofs.Basics.{mul-le-mul_left, le_of_mul-le-mul_right, arith, List, ◌++◌, lit≤, length, get_or, drop, length-append}
+use Rattle.sequences.proofs.Basics.{length-drop, get_or-take}
 use Rattle.sequences.proofs.Basics.{pow_pos}
 use lib.Ieee.{Float, nan, binary32, neg}
 use Rattle.sequences.specs.Lists.{tabulate}
@@ -157,7 +158,8 @@ module _ (p : Record) (W : ℕ) (lent : Slices) (v : Verdict) (tw : Slices) (fil
   read_cell : (j : ℕ) → j < h → get_or inputs j blank ≡ conjugate (end_cell ifft_steps h (cell xs) (end_lent tw.1) j)
   read_cell j l =
       let same : 0 + j ≡ j = omega arith in
-      get_d_tabulate h 0 (λ j. conjugate (cell (data_of h q) j)) j blank l ∙ ap (λ (i : ℕ). conjugate (cell (data_of h q) i)) same ∙ ap conjugate (data_cell j l)
+      get_d_tabulate h 0 (λ j. conjugate (cell (data_of h q) j)) j blank l ∙ ap (λ (i : ℕ). conjugate (cell (data_of h q) i)) same ∙ ap conjugate
+      (data_cell j l)
 
   -- ---- the end twiddles
 
@@ -225,7 +227,8 @@ module _ (p : Record) (W : ℕ) (lent : Slices) (v : Verdict) (tw : Slices) (fil
         (run_held (d * 2) h told.pairs rs (use-product p told.planned) told.some told.eight
         told.short inputs (λ k m. ((is_ready k m).0, (is_ready k m).1)) (λ k. 2898 * a) is_sized enough total u l)
 
-    ran_off : (u : ℕ) → u < h → Off (E * (h * (2898 * a))) (scale_g (2 ^ 60) (val_c (get_or ran u blank))) (dft house (d * 2) h (λ k. val_c (get_or inputs k blank)) u)
+    ran_off : (u : ℕ) → u < h → Off (E * (h * (2898 * a))) (scale_g (2 ^ 60) (val_c (get_or ran u blank))) (dft house (d * 2) h (λ k. val_c (get_or inputs
+        k blank)) u)
     ran_off u l = off_eq _ _ _ _ _ (ap (λ (z : Complex). scale_g (2 ^ 60) (val_c z)) (sym (ran_is u))) refl
         (off_more _ _ _ _ (le_of_eq (ap (λ (n : ℕ). E * n) (constant h (2898 * a))))
         (run_off (d * 2) h told.pairs rs (use-product p told.planned) told.some told.eight
@@ -241,7 +244,8 @@ module _ (p : Record) (W : ℕ) (lent : Slices) (v : Verdict) (tw : Slices) (fil
         off_more _ _ _ _ (le_of_eq (ap (λ (n : ℕ). 2 ^ 60 * (E * (h * (2898 * a))) + n) (constant h ((2 ^ 60 + 2 ^ 50) * (1024 * a) * (2 ^ 60 + 1)))))
         (off_trans _ _ _ _ _ (off_scale (2 ^ 60) _ _ _ (ran_off u l))
         (off_eq _ _ _ _ _ (sym (sum_scale h (λ k. times_g (val_c (get_or inputs k blank)) (house (d * 2 * (k * u)))) (2 ^ 60))) refl
-        (off_sum h (λ k. (2 ^ 60 + 2 ^ 50) * (1024 * a) * (2 ^ 60 + 1)) (λ k. scale_g (2 ^ 60) (times_g (val_c (get_or inputs k blank)) (house (d * 2 * (k * u)))))
+        (off_sum h (λ k. (2 ^ 60 + 2 ^ 50) * (1024 * a) * (2 ^ 60 + 1)) (λ k. scale_g (2 ^ 60) (times_g (val_c (get_or inputs k blank)) (house (d * 2 * (k
+        * u)))))
         (λ k. times_g (N k) (house (d * 2 * (k * u))))
         (λ k m. off_same _ _ _ _ _ (same_scale_right (2 ^ 60) (val_c (get_or inputs k blank)) (house (d * 2 * (k * u)))) (same_self _)
         (off_times _ _ (scale_g (2 ^ 60) (val_c (get_or inputs k blank))) (N k) (house (d * 2 * (k * u))) (is_ready k m).2 (turns.norm (d * 2 * (k * u))))))))

@@ -100,7 +100,8 @@ sum_back (suc n) f = both (sum_z n (λ k. f (suc k))) (f (suc n)) (sum_z n (λ k
 sum_twice : (n : ℕ) (f : ℕ → Signed) → NearZ 0 (f n) (f 0) → NearZ 0 (plus_z (sum_z n f) (sum_z n f)) (sum_z n (λ k. plus_z (f k) (f (n - k))))
 unfolding sum_z
 sum_twice n f e =
-    join (sum_z n f) (sum_z n (λ k. f (suc k))) (sum_z n (λ k. f (n - k))) (f 0) (f n) (sum_z n (λ k. plus_z (f k) (f (n - k)))) (sum_front n f) e (sum_back n f)
+    join (sum_z n f) (sum_z n (λ k. f (suc k))) (sum_z n (λ k. f (n - k))) (f 0) (f n) (sum_z n (λ k. plus_z (f k) (f (n - k)))) (sum_front n f) e
+    (sum_back n f)
     (sum_plus n f (λ k. f (n - k)))
   where
     join : (a b c x y s : Signed) → NearZ 0 (plus_z a y) (plus_z x b) → NearZ 0 y x → NearZ 0 b c → NearZ 0 (plus_z a c) s → NearZ 0 (plus_z a a) s
@@ -112,7 +113,8 @@ sum_twice n f e =
 abbrev mirrored : Gauss → Gauss
 mirrored w = record { re = neg_z w.re; im = w.im }
 
-flipped : (G : ℕ) (A B w : Gauss) → Same (formed G B A (mirrored w)) (conj_g (minus_g (scale_g G (plus_g A (conj_g B))) (times_g (quarter (minus_g A (conj_g B))) w)))
+flipped : (G : ℕ) (A B w : Gauss) → Same (formed G B A (mirrored w)) (conj_g (minus_g (scale_g G (plus_g A (conj_g B))) (times_g (quarter (minus_g A
+    (conj_g B))) w)))
 flipped G A B w = (omega arith, omega arith)
 
 -- one turned by v and the other back
@@ -140,7 +142,8 @@ conj_times z v = (omega arith, omega arith)
 added : (G : ℕ) (q s v : Gauss) → Same (plus_g (times_g (plus_g (scale_g G q) s) v) (times_g (conj_g (minus_g (scale_g G q) s)) (conj_g v)))
     (record { re = scale (2 * G) (times_g q v).re; im = scale 2 (times_g s v).im })
 added G q s v =
-    join G (times_g q v) (times_g s v) (times_g (plus_g (scale_g G q) s) v) (times_g (minus_g (scale_g G q) s) v) (times_g (conj_g (minus_g (scale_g G q) s)) (conj_g v))
+    join G (times_g q v) (times_g s v) (times_g (plus_g (scale_g G q) s) v) (times_g (minus_g (scale_g G q) s) v) (times_g (conj_g (minus_g (scale_g G q)
+    s)) (conj_g v))
     (over_sum G q s v) (over_difference G q s v) (conj_times (minus_g (scale_g G q) s) v)
   where
     join : (G : ℕ) (x y a b c : Gauss) → Same a (plus_g (scale_g G x) y) → Same b (minus_g (scale_g G x) y) → Same c (conj_g b)
@@ -234,7 +237,11 @@ module _ (p h : ℕ) (circle : p * (h * 2) ≡ 6720) (b : ℕ → Gauss) (β γ 
     w = house (p * k)
 
     both : Same (plus_g (term k) (term (h - k)))
-        (record { re = scale (2 * 2 ^ 60) (times_g (plus_g A (conj_g B)) (v k)).re; im = scale 2 (times_g (times_g (quarter (minus_g A (conj_g B))) w) (v k)).im })
+        (record {
+          re = scale (2 * 2 ^ 60) (times_g (plus_g A (conj_g B)) (v k)).re;
+          im = scale 2 (times_g (times_g (quarter (minus_g A (conj_g B))) w) (v
+              k)).im;
+        })
     unfolding term prepared
     both =
         let back : h - (h - k) ≡ k = omega arith in
@@ -331,7 +338,8 @@ module _ (p h : ℕ) (circle : p * (h * 2) ≡ 6720) (b : ℕ → Gauss) (β γ 
   unfolding dft synthesis term gives
   odd_sample α sized =
       let g : ℕ → Signed = λ k. plus_z (along (b k) (house (p * ((2 * u + 1) * k)))) (along (b (h - k)) (house (p * ((2 * u + 1) * (h - k))))) in
-      let f : ℕ → Signed = λ k. (times_g (times_g (quarter (minus_g (conj_g (b k)) (conj_g (conj_g (b (h - k)))))) (house (p * k))) (house (p * 2 * (k * u)))).im in
+      let f : ℕ → Signed = λ k. (times_g (times_g (quarter (minus_g (conj_g (b k)) (conj_g (conj_g (b (h - k)))))) (house (p * k))) (house (p * 2 * (k *
+      u)))).im in
       joined (2 ^ 60) (h * (2 ^ 39 * 2 ^ 60 * α)) made.im (sum_z h (λ k. (term k).im)) (sum_z h (λ k. plus_z (term k).im (term (h - k)).im))
       (sum_z h (λ k. scale 2 (f k))) (sum_z h f)
       (sum_z h (λ k. scale (2 ^ 60) (neg_z (g k)))) (sum_z h (λ k. neg_z (g k))) (sum_z h g) (sum_im h term) (sum_twice h (λ k. (term k).im) closed.1)

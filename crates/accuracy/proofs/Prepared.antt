@@ -32,7 +32,8 @@ near_form : (G : ℕ) (A B w : Gauss)
     → Same (conj_g (plus_g (scale_g G (plus_g A (conj_g B))) (neg_g (times_g (quarter (minus_g A (conj_g B))) (conj_g w))))) (formed G (conj_g A) (conj_g B) w)
 near_form G A B w = (omega arith, omega arith)
 
-far_form : (G : ℕ) (A B w : Gauss) → Same (conj_g (conj_g (minus_g (scale_g G (plus_g A (conj_g B))) (neg_g (times_g (quarter (minus_g A (conj_g B))) (conj_g w))))))
+far_form : (G : ℕ) (A B w : Gauss) → Same (conj_g (conj_g (minus_g (scale_g G (plus_g A (conj_g B))) (neg_g (times_g (quarter (minus_g A (conj_g B)))
+    (conj_g w))))))
     (formed G (conj_g B) (conj_g A) (record { re = neg_z w.re; im = w.im }))
 far_form G A B w = (omega arith, omega arith)
 

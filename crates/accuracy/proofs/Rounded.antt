@@ -267,7 +267,8 @@ half_close w t cl re im =
       re = re.0;
       im = im.0;
       off =
-          off_same (2 ^ 149 * (2 ^ 60 + 2)) (scale_g (2 ^ 24 * 2 ^ 60) (val_c t)) (scale_g (2 ^ 24 * 2 ^ 149) w) (scale_g (2 ^ 24 * (2 * 2 ^ 60)) (val_c (halves t)))
+          off_same (2 ^ 149 * (2 ^ 60 + 2)) (scale_g (2 ^ 24 * 2 ^ 60) (val_c t)) (scale_g (2 ^ 24 * 2 ^ 149) w) (scale_g (2 ^ 24 * (2 * 2 ^ 60)) (val_c
+          (halves t)))
           (scale_g (2 ^ 24 * 2 ^ 149) w) (
             doubled (2 ^ 24) (2 ^ 60) (val binary32 (mul binary32 one_half t.re)) (val binary32 t.re) re.1,
             doubled (2 ^ 24) (2 ^ 60) (val binary32 (mul binary32 one_half t.im)) (val binary32 t.im) im.1,

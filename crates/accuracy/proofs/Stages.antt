@@ -8,7 +8,8 @@ use Rattle.sequences.proofs.Tables.{get_d_tabulate}
 use Rattle.counts.specs.Counts.{stride, radix}
 use Rattle.radices.specs.Lists.{product}
 use Rattle.counts.proofs.Counts.{stride_none}
-use Rattle.schedule.specs.Stage.{twiddle_turn, kernel_turn, twiddled_in, read as read_of, total as total_of, plain, output, stage_by, stage, run, iteration, place}
+use Rattle.schedule.specs.Stage.{twiddle_turn, kernel_turn, twiddled_in, read as read_of, total as total_of, plain, output, stage_by, stage, run}
+use Rattle.schedule.specs.Stage.{iteration, place}
 use Rattle.schedule.proofs.Cells.{pos_left, pos_right, by_stride, by_radix, by_both, iteration_block, place_block}
 use Rattle.schedule.proofs.Strides.{stride_suc, stride_drop, stride_length}
 use Rattle.turn.specs.Calls.{part}

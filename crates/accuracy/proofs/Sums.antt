@@ -62,7 +62,8 @@ sum_none (suc n) = ap (λ (z : Gauss). plus_g z zero_g) (sum_none n) ∙ plus_ze
 sum_append : (n k : ℕ) (f : ℕ → Gauss) → sum_g (n + k) f ≡ plus_g (sum_g n f) (sum_g k (λ i. f (n + i)))
 unfolding sum_g
 sum_append n zero f = rw add-zero (sym (plus_zero (sum_g n f)))
-sum_append n (suc k) f = rw add-suc (ap (λ (z : Gauss). plus_g z (f (n + k))) (sum_append n k f) ∙ plus_assoc (sum_g n f) (sum_g k (λ i. f (n + i))) (f (n + k)))
+sum_append n (suc k) f = rw add-suc (ap (λ (z : Gauss). plus_g z (f (n + k))) (sum_append n k f) ∙ plus_assoc (sum_g n f) (sum_g k (λ i. f (n + i))) (f (n
+    + k)))
 
 -- the numbers below s * r, each by its two digits
 pub sum_digits : (s r : ℕ) (f : ℕ → Gauss) → sum_g (s * r) f ≡ sum_g r (λ q. sum_g s (λ u. f (u * r + q)))
@@ -120,7 +121,8 @@ sum_n_least (suc n) f k p h = omega (arith, h n (le_refl (suc n)))
 
 -- a part of a sum
 pub sum_n_part : (k n : ℕ) (f : ℕ → ℕ) → k ≤ n → sum_n k f ≤ sum_n n f
-sum_n_part k n f h = let d = (native.Mathlib.Nat.le_dest h).0 in let e : k + d ≡ n = (native.Mathlib.Nat.le_dest h).1 in rw (← e, sum_n_append k d f) (omega arith)
+sum_n_part k n f h = let d = (native.Mathlib.Nat.le_dest h).0 in let e : k + d ≡ n = (native.Mathlib.Nat.le_dest h).1 in rw (← e, sum_n_append k d f)
+    (omega arith)
 
 -- one term
 sum_n_last : (k : ℕ) (f : ℕ → ℕ) → f k ≤ sum_n (suc k) f

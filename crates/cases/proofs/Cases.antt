@@ -1,5 +1,5 @@
 -- The twelve cases hold: what the promises leave open is lifted first, and the rest is by computation. Assumes nothing.
-use Rattle.sequences.proofs.Basics.{◌≡◌, refl, sym, ap, ap₂, subst, ◌∙◌, ℕ, ◌+◌, ◌-◌, ◌*◌, true, false, List, [], ltb, length, le-ltb}
+use Rattle.sequences.proofs.Basics.{◌≡◌, refl, sym, ap, ap₂, subst, ◌∙◌, ℕ, ◌+◌, ◌-◌, ◌*◌, true, false, List, [], ◌∷◌, ltb, length, le-ltb}
 use lib.Ieee.{Float, of_int, of_bits, add, sub, mul, neg}
 use Rattle.refusal.specs.Refusal.{left}
 use Rattle.refusal.specs.declared.Refusal.{Refusal}
@@ -20,7 +20,7 @@ use Rattle.schedule.specs.Plans.{in_use}
 use Rattle.schedule.specs.Stage.{twiddle_turn, kernel_turn, iteration, place, twiddled_in, read, total, plain, output, stage_by, stage, run}
 use Rattle.turn.specs.Turns as Turns
 use Rattle.packing.specs.Places.{is_width}
-use Rattle.floats.specs.Complexes.{paired, flat}
+use Rattle.floats.specs.Complexes.{cx, paired, flat}
 use Rattle.scan.specs.Scan.{fits, first_unfit}
 use Rattle.floats.specs.declared.complex.Complex.{Complex}
 use Rattle.kernel.specs.Floats.{floats, stage_of}
@@ -31,7 +31,7 @@ use Rattle.transform.specs.Transforms.{Slices, forward_run, forward_of, prepared
 use Rattle.power.specs.declared.Summed.{Summed}
 use Rattle.remainder.specs.Calls.{first_large, run_verdict}
 use Rattle.residues.specs.Residues.{turn, residues, run_of}
-use Rattle.cases.specs.Cases.{table, Gives, Sums, Refuses, Transforms, Holds, All}
+use Rattle.cases.specs.Cases.{+◌, -◌, summed as comes_to, unsummed, spectrum, table, Gives, Sums, Refuses, Transforms, Holds, All}
 
 -- the plan of a list by definition
 abbrev plan_of : List ℕ → Record
@@ -97,13 +97,43 @@ abbrev ◌&◌ : {A B : Type 0} → A → B → A × B
 x & y = (x, y)
 
 infixr 60 ◌&◌
--- every case of the table
-pub cases_hold : All Holds table
-unfolding planned plan_verdict first_bad first_that is_radix first_over product refused_plan accepted_plan record_of factors half halving halved index_of tally count_of
+-- a run in remainders
+case_sum : Holds (3 ∷ 2 ∷ 2 ∷ [], comes_to 6 7 3 (0 ∷ 1 ∷ 0 ∷ 0 ∷ 0 ∷ 0 ∷ []) (1 ∷ 3 ∷ 2 ∷ 6 ∷ 4 ∷ 5 ∷ []))
+unfolding planned plan_verdict first_bad first_that is_radix first_over product refused_plan accepted_plan record_of factors half halving halved index_of
+    tally count_of
     rules rules_up_to first_rule applies merge merged_by merged letters sorted padded is_planned in_order sized eq_list run_verdict first_large result_in driven
     alternated in_use radix stride run stage stage_by tabulate output iteration place plain total read twiddled_in kernel_turn twiddle_turn residues turn
-    lent_verdict twiddle_count twiddle_start end_count first_unfit fits forward_of forward_run inverse_of inverse_run prepared_of conjugated ended end_cell flat paired
+case_sum = sums {list = 3 ∷ 2 ∷ 2 ∷ []} {h = 6} {m = 7} {w = 3} {xs = 0 ∷ 1 ∷ 0 ∷ 0 ∷ 0 ∷ 0 ∷ []} {ys = 1 ∷ 3 ∷ 2 ∷ 6 ∷ 4 ∷ 5 ∷ []} refl refl refl (λ s. refl)
+
+-- a run with a base that does not do
+case_base : Holds (8 ∷ [], unsummed 4 7 3 12 0)
+unfolding planned plan_verdict first_bad first_that is_radix first_over product refused_plan accepted_plan record_of factors half halving halved index_of
+    tally count_of
+    rules rules_up_to first_rule applies merge merged_by merged letters sorted padded is_planned in_order sized eq_list run_verdict
+case_base = refuses {list = 8 ∷ []} {h = 4} {m = 7} {w = 3} {n = 12} {k = 0} Base refl (λ xs room. refl) (record { number = refl; place = refl })
+
+-- the transforms
+case_spectrum : Holds (
+  4 ∷ [],
+  spectrum (+ 1 ∷ + 2 ∷ + 3 ∷ + 4 ∷ []) (cx (+ 10) (+ 0) ∷ cx (- 2) (+ 2) ∷ cx (- 2) (+ 0) ∷ []) (+ 4 ∷ + 8 ∷ + 12 ∷ + 16 ∷
+      []) (+ 112),
+)
+unfolding planned plan_verdict first_bad first_that is_radix first_over product refused_plan accepted_plan record_of factors half halving halved index_of
+    tally count_of
+    rules rules_up_to first_rule applies merge merged_by merged letters sorted padded is_planned in_order sized eq_list run_verdict first_large result_in driven
+    alternated in_use radix stride run stage stage_by tabulate output iteration place plain total read twiddled_in kernel_turn twiddle_turn residues turn
+    lent_verdict twiddle_count twiddle_start end_count first_unfit fits forward_of forward_run inverse_of inverse_run prepared_of conjugated ended
+    end_cell flat paired
     stage_of floats Turns.turn_of Turns.turn_at Turns.index_of power_verdict power_from add sub mul neg of_int of_bits
+case_spectrum = transforms {list = 4 ∷ []} {samples = + 1 ∷ + 2 ∷ + 3 ∷ + 4 ∷ []} {bins = cx (+ 10) (+ 0) ∷ cx (- 2) (+ 2) ∷ cx (- 2) (+ 0) ∷ []} {again =
+    + 4 ∷ + 8 ∷ + 12 ∷ + 16 ∷ []} {sum = + 112}
+    (λ W room w l. rw (w, l) refl) (λ W s. refl) (λ W room w l. rw (w, l) refl) (λ W s. refl) refl refl
+
+-- every case of the table
+pub cases_hold : All Holds table
+unfolding planned plan_verdict first_bad first_that is_radix first_over product refused_plan accepted_plan record_of factors half halving halved index_of
+    tally count_of
+    rules rules_up_to first_rule applies merge merged_by merged letters sorted padded
 cases_hold = promised _ (record { number = refl; place = refl }) & promised _ (record { number = refl; place = refl })
     & promised _ (record { number = refl; place = refl })
     & promised _ (record { number = refl; place = refl })
@@ -112,7 +142,7 @@ cases_hold = promised _ (record { number = refl; place = refl }) & promised _ (r
     & promised _ (record { verdict = refl; count = refl; radices = refl; merges = refl })
     & promised _ (record { verdict = refl; count = refl; radices = refl; merges = refl })
     & promised _ (record { verdict = refl; count = refl; radices = refl; merges = refl })
-    & sums refl refl refl (λ s. refl)
-    & refuses Base refl (λ xs room. refl) (record { number = refl; place = refl })
-    & transforms (λ W room w l. rw (w, l) refl) (λ W s. refl) (λ W room w l. rw (w, l) refl) (λ W s. refl) refl refl
+    & case_sum
+    & case_base
+    & case_spectrum
     & tt

@@ -12,12 +12,14 @@ use Rattle.plan.specs.declared.Planned.{Planned}
 -- ---- merges
 
 merges_2222 : (planned (2 ∷ 2 ∷ 2 ∷ 2 ∷ [])).merges.count ≡ 1
-unfolding planned plan_verdict first_bad first_that is_radix first_over product accepted_plan half halving halved index_of tally count_of rules rules_up_to first_rule
+unfolding planned plan_verdict first_bad first_that is_radix first_over product accepted_plan half halving halved index_of tally count_of rules
+    rules_up_to first_rule
     applies merge letters marked
 merges_2222 = refl
 
 merges_4444 : (planned (4 ∷ 4 ∷ 4 ∷ 4 ∷ [])).merges.count ≡ 2
-unfolding planned plan_verdict first_bad first_that is_radix first_over product accepted_plan half halving halved index_of tally count_of rules rules_up_to first_rule
+unfolding planned plan_verdict first_bad first_that is_radix first_over product accepted_plan half halving halved index_of tally count_of rules
+    rules_up_to first_rule
     applies merge letters marked
 merges_4444 = refl
 
@@ -51,13 +53,15 @@ counts list stage end e f =
 
 -- n 640, radices 5, 8, 8
 pub counts_640 : Counts (2 ∷ 5 ∷ 8 ∷ 8 ∷ []) 560 159
-unfolding planned plan_verdict first_bad first_that is_radix first_over product accepted_plan record_of factors half halving halved index_of tally count_of rules
+unfolding planned plan_verdict first_bad first_that is_radix first_over product accepted_plan record_of factors half halving halved index_of tally
+    count_of rules
     rules_up_to merged_by merged sorted padded record_verdict is_planned in_order sized eq_list radix twiddle_count twiddle_start end_count
 counts_640 = counts _ _ _ refl refl
 
 -- n 588, radices 2, 3, 7, 7
 pub counts_588 : Counts (4 ∷ 3 ∷ 7 ∷ 7 ∷ []) 700 146
-unfolding planned plan_verdict first_bad first_that is_radix first_over product accepted_plan record_of factors half halving halved index_of tally count_of rules
+unfolding planned plan_verdict first_bad first_that is_radix first_over product accepted_plan record_of factors half halving halved index_of tally
+    count_of rules
     rules_up_to first_rule applies merged_by merged sorted padded record_verdict is_planned in_order sized eq_list radix twiddle_count twiddle_start end_count
 counts_588 = counts _ _ _ refl refl
 

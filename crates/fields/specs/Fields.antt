@@ -29,7 +29,8 @@ module _ (w : List ℕ) (at left L : ℕ) where
 
   -- the file's own mark: its size is its length less 8
   abbrev pub head_rows : List Row
-  head_rows = field 0 4 (is_not (number_at 4 w 0) (mark "RIFF")) ++ field 4 4 (is_not (number_at 4 w 4) (L - 8)) ++ field 8 4 (is_not (number_at 4 w 8) (mark "WAVE"))
+  head_rows = field 0 4 (is_not (number_at 4 w 0) (mark "RIFF")) ++ field 4 4 (is_not (number_at 4 w 4) (L - 8)) ++ field 8 4 (is_not (number_at 4 w 8)
+      (mark "WAVE"))
 
   -- a format: 16 bytes, PCM, one channel
   abbrev pub kind_rows : List Row
@@ -37,7 +38,8 @@ module _ (w : List ℕ) (at left L : ℕ) where
 
   -- and the rate, its bytes a second, 2 bytes a sample, 16 bits
   abbrev pub rate_rows : List Row
-  rate_rows = field 12 4 (no_rate (number_at 4 w 12)) ++ field 16 4 (is_not (number_at 4 w 16) (2 * number_at 4 w 12)) ++ field 20 2 (is_not (number_at 2 w 20) 2)
+  rate_rows = field 12 4 (no_rate (number_at 4 w 12)) ++ field 16 4 (is_not (number_at 4 w 16) (2 * number_at 4 w 12)) ++ field 20 2 (is_not (number_at 2
+      w 20) 2)
       ++ field 22 2 (is_not (number_at 2 w 22) 16)
 
   abbrev pub format_rows : List Row

@@ -215,7 +215,8 @@ module _ (x : ℕ → ℤ) (xs : List Float) where
         let z = times 2 1 (held_neg (held_neg (held_sub s (held_sub s a b tt) (held_sub s a' b' tt) tt))) (omega arith) in
         each 2 (λ j. IsWhole (get_or (two_samples (cell xs 0) (cell xs 1) ++ rest) j nan) (pos 2 *ℤ x j)) (y, (z, tt))
 
-    samples_four : Small 4 x → IsBins 4 x xs → (j : ℕ) → j < 4 → IsWhole (get_or (four_samples (cell xs 0) (cell xs 1) (cell xs 2) ++ rest) j nan) (pos 4 *ℤ x j)
+    samples_four : Small 4 x → IsBins 4 x xs → (j : ℕ) → j < 4 → IsWhole (get_or (four_samples (cell xs 0) (cell xs 1) (cell xs 2) ++ rest) j nan) (pos 4
+        *ℤ x j)
     unfolding flat
     samples_four s g =
         let a : Held x (word 0) (bin_sums 4 0).0 = record { whole = (g 0 (lit≤ tt)).0 } in

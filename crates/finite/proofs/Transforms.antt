@@ -1,5 +1,6 @@
 -- Every number that forward and inverse write is finite: the steps of both directions, with a bound on what is read. Assumes nothing.
-use Rattle.sequences.proofs.Basics.{◌≡◌, refl, sym, ap, ◌∙◌, subst, ℕ, zero, suc, ◌+◌, ◌-◌, ◌*◌, ◌/◌, ◌≤◌, ◌<◌, arith, dec_le, true, List, [], ◌∷◌, ◌++◌, length}
+use Rattle.sequences.proofs.Basics.{◌≡◌, refl, sym, ap, ◌∙◌, subst, ℕ, zero, suc, ◌+◌, ◌-◌, ◌*◌, ◌/◌, ◌≤◌, ◌<◌, arith, dec_le, true, List, [], ◌∷◌}
+use Rattle.sequences.proofs.Basics.{◌++◌, length}
 use Rattle.sequences.proofs.Basics.{get_or, drop, length-append, length-drop, get_or-append, get_or-append-add, get_or-take, get_or-drop, length-take-le}
 use lib.Ieee.{Float, nan}
 use Rattle.sequences.proofs.Tables.{length_tabulate, get_d_tabulate}
@@ -48,7 +49,8 @@ module _ (k : ℕ) (xs ys : List Float) (w : Words k (xs ++ ys)) where
 -- ---- lent twiddles
 
 -- those of the stages are at most 1
-pub lent_ones : (p : Record) → is_planned p ≡ true → (W : ℕ) → 0 < W → (tw : List Float) → length tw ≡ 2 * stage_twiddles p → Words 0 tw → Ones p (lent_to p W tw)
+pub lent_ones : (p : Record) → is_planned p ≡ true → (W : ℕ) → 0 < W → (tw : List Float) → length tw ≡ 2 * stage_twiddles p → Words 0 tw → Ones p (lent_to
+    p W tw)
 lent_ones p planned W some tw long w j later known i q li first last =
     let M = p.half / radix (in_use p) j in let below = place_lt M (radix (in_use p) j) W i q some li first last in
     let count : M * (radix (in_use p) j - 1) ≡ twiddle_count p.half p.radices j =

@@ -2,7 +2,8 @@
 -- Assumes nothing.
 use Rattle.sequences.proofs.Basics.{◌≡◌, refl, sym, ap, ap₂, ◌∙◌, subst, ℕ, zero, suc, ◌+◌, ◌-◌, ◌*◌, ◌^◌, ◌≤◌, mul-one, lt_of_not-le, zero-lt-suc, arith}
 use Rattle.sequences.proofs.Basics.{dec_le, Bool, true, false, not, cond, ◌&&◌, dite, T, ltb, leb, ltb→lt, leb→le, lt-ltb, le-ltb}
-use lib.IntN.{ℤ, pos, negsuc, neg_ℤ, ◌+ℤ◌, ◌-ℤ◌, nat_abs, sub_ℕ, +ℤ_assoc, +ℤ_comm, +ℤ_idl, +ℤ_idr, +ℤ-neg_ℤ_cancel, neg_ℤ-+ℤ, neg_ℤ-neg_ℤ, ◌*ℤ◌, zero-*ℤ, suc_ℤ-*ℤ}
+use lib.IntN.{ℤ, pos, negsuc, neg_ℤ, ◌+ℤ◌, ◌-ℤ◌, nat_abs, sub_ℕ, +ℤ_assoc, +ℤ_comm, +ℤ_idl, +ℤ_idr, +ℤ-neg_ℤ_cancel, neg_ℤ-+ℤ, neg_ℤ-neg_ℤ, ◌*ℤ◌}
+use lib.IntN.{zero-*ℤ, suc_ℤ-*ℤ}
 use lib.Ieee.{Float, nan, inf, fin, binary32, up, round, sum, add, sub, neg, of_bits}
 use lib.Ieee.Fits.{and_l, and_r}
 use lib.Ieee.Exact.{HasValue}

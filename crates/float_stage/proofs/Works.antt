@@ -2,7 +2,7 @@
 use Rattle.sequences.proofs.Basics.{◌≡◌, refl, sym, ap, ◌∙◌, ℕ, ◌*◌, ◌/◌, ◌≤◌, ◌<◌, le_of_lt, div-mul-le_self, div-le_self, arith, true, false, List, eqb}
 use Rattle.sequences.proofs.Basics.{length, get_or, eq-eqb, ne_eqb}
 use lib.Ieee.{Float}
-use Rattle.counts.specs.Counts.{radix, stride}
+use Rattle.counts.specs.Counts.{stride}
 use Rattle.plan.specs.declared.Record.{Record}
 use Rattle.plan.proofs.Bounds.{plan_half, plan_radix, plan_radix_bounds, plan_later}
 use Rattle.counts.proofs.Counts.{count_later, stride_none}

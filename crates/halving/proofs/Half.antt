@@ -1,6 +1,7 @@
 -- Laws of the half list. Assumes nothing.
 use Rattle.sequences.proofs.Basics.{◌≡◌, refl, sym, ap, ◌∙◌, ℕ, suc, ◌+◌, ◌-◌, ◌*◌, ◌%◌, ◌<◌, ◌≤◌, add-mul-mod_self_right, add-one, arith, Bool, true, false}
-use Rattle.sequences.proofs.Basics.{cond, inl, inr, List, [], ◌∷◌, ◌++◌, eqb, length, get_or, take, drop, set, length-append, length-take, length-drop, split_at}
+use Rattle.sequences.proofs.Basics.{cond, inl, inr, List, [], ◌∷◌, ◌++◌, eqb, length, get_or, take, drop, set, length-append, length-take}
+use Rattle.sequences.proofs.Basics.{length-drop, split_at}
 use Rattle.sequences.proofs.Basics.{set_split, ltb-true, ltb-false, eqb-true, eqb-false}
 use Rattle.radices.specs.Lists.{is_radix, product, index_of}
 use Rattle.sequences.specs.Lists.{first_that}

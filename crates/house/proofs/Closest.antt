@@ -1,6 +1,7 @@
 -- The whole number nearest to a / b, ties to even. Assumes nothing.
 use Rattle.sequences.proofs.Basics.{◌≡◌, refl, ap, ◌∙◌, subst, ℕ, ◌*◌, ◌/◌, ◌%◌, ◌^◌, ◌<◌, ◌≤◌, compare, Ordering, ordering_lt, ordering_eq, ordering_gt}
-use Rattle.sequences.proofs.Basics.{mul-one, zero-lt-suc, div-one, mod-one, le_trans, div-lt_iff_lt-mul, le-div_iff_mul-le, arith, not, T, eqb, is_le, compare_is_eq}
+use Rattle.sequences.proofs.Basics.{mul-one, zero-lt-suc, div-one, mod-one, le_trans, div-lt_iff_lt-mul, le-div_iff_mul-le, arith, not, T, eqb, is_le}
+use Rattle.sequences.proofs.Basics.{compare_is_eq}
 use Rattle.sequences.proofs.Basics.{leb→le, nleb→lt, eqb→eq, eqb_refl, pow_pos, lt_of_le-ne}
 use lib.Ieee.{nearest}
 use lib.Ieee.Fits.{nearest-le}

@@ -184,9 +184,9 @@ module _ (c k q : ℕ) (h : k ≤ 37) (b : Beyond c k) (e : q ≡ closest c (2 ^
       ∙ scale_mul (round binary32 false q 1) q k (round_whole binary32 false q at_most) ∙ ap (λ (x : ℕ). over (x * 2 ^ k)) e ∙ same_value c k b
 
   -- the cast of q loses nothing
-  pub in_float : T (in_float binary32 (pos q))
+  pub cast_in_float : T (in_float binary32 (pos q))
   unfolding in_float
-  in_float = le→leb q 16777216 at_most
+  cast_in_float = le→leb q 16777216 at_most
 
 -- the pattern is a number's
 pub no_nan : (k : ℕ) → k ≤ 37 → T (not (nan_bits binary32 ((67 + k) * 8388608)))

@@ -43,7 +43,8 @@ module _ (first : Bool) (M : ℕ) (src : List Float) (lent : ℕ → ℕ → Com
   read_plain zero x l e ex = absurd (omega arith)
   read_plain (suc q) x l e ex = rw e ex
 
-  pub read_times : (q : ℕ) (x t y : Complex) → 0 < q → first ≡ false → x ≡ cell src (i + q * M) → t ≡ lent i q → y ≡ times x t → y ≡ read_of first M src lent i q
+  pub read_times : (q : ℕ) (x t y : Complex) → 0 < q → first ≡ false → x ≡ cell src (i + q * M) → t ≡ lent i q → y ≡ times x t → y ≡ read_of first M src
+      lent i q
   unfolding read_of
   read_times zero x t y l e ex et ey = absurd (omega arith)
   read_times (suc q) x t y l e ex et ey = rw e (ey ∙ ap₂ times ex et)

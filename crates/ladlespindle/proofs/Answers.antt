@@ -5,7 +5,8 @@ use Rattle.refusal.specs.declared.Verdict.{Verdict}
 use Rattle.refusal.specs.declared.Verdict.TheVariants.{Accepted, Refused}
 use Rattle.radices.specs.Lists.{product, count_of, padded, eq_list}
 use Rattle.merging.specs.Merging.{tally, sorted}
-use Rattle.plan.specs.Record.{plan_verdict, record_of, no_record, accepted_plan, refused_plan, planned_by, planned, Plannable, Accepts, in_order, sized, is_planned}
+use Rattle.plan.specs.Record.{plan_verdict, record_of, no_record, accepted_plan, refused_plan, planned_by, planned, Plannable, Accepts, in_order}
+use Rattle.plan.specs.Record.{sized, is_planned}
 use Rattle.counts.specs.Counts.{record_verdict, counted, located, buffer_number}
 use Rattle.plan.specs.declared.Record.{Record}
 use Rattle.plan.specs.declared.Planned.{Planned}
@@ -19,50 +20,50 @@ use Rattle.scaling.specs.Scaling.{Scales}
 use Rattle.ladlespindle.specs.Exports.{or_zero, count_for, crossed, GivesAcceptance, GivesScaling}
 
 -- the record of a refused list is one that planning does not give
-none-planned : is_planned no_record ≡ false
+none_planned : is_planned no_record ≡ false
 unfolding is_planned in_order sized product tally count_of sorted padded eq_list
-none-planned = refl
+none_planned = refl
 
 -- so the verdict on the record is the verdict on the list
 module _ (xs : List ℕ) where
-  accepted-record : plan_verdict xs ≡ Accepted → record_verdict (record_of xs) ≡ Accepted
-  accepted-record e = record_accepted (record_of xs) (planned_passes xs (accepted_good xs e))
+  accepted_record : plan_verdict xs ≡ Accepted → record_verdict (record_of xs) ≡ Accepted
+  accepted_record e = record_accepted (record_of xs) (planned_passes xs (accepted_good xs e))
 
   count_by : (f : Record → ℕ) (v : Verdict) → plan_verdict xs ≡ v
       → (counted (record_verdict (planned_by v xs).plan) (f (planned_by v xs).plan)).count ≡ or_zero v (f (record_of xs))
   unfolding accepted_plan refused_plan
-  count_by f Accepted e = rw (accepted-record e)
-  count_by f (Refused why) e = rw (record_refused no_record none-planned)
+  count_by f Accepted e = rw (accepted_record e)
+  count_by f (Refused why) e = rw (record_refused no_record none_planned)
 
-  buffer-by : (f : Record → Buffer) (v : Verdict) → plan_verdict xs ≡ v
+  buffer_by : (f : Record → Buffer) (v : Verdict) → plan_verdict xs ≡ v
       → buffer_number (located (record_verdict (planned_by v xs).plan) (f (planned_by v xs).plan)).buffer ≡ or_zero v (buffer_number (f (record_of xs)))
   unfolding accepted_plan refused_plan
-  buffer-by f Accepted e = rw (accepted-record e)
-  buffer-by f (Refused why) e = rw (record_refused no_record none-planned)
+  buffer_by f Accepted e = rw (accepted_record e)
+  buffer_by f (Refused why) e = rw (record_refused no_record none_planned)
 
   module _ (a : Planned) (e : a ≡ planned xs) where
-    pub count-for : (f : Record → ℕ) (r : Counted) → r ≡ counted (record_verdict a.plan) (f a.plan) → r.count ≡ count_for f xs
+    pub count_for_lem : (f : Record → ℕ) (r : Counted) → r ≡ counted (record_verdict a.plan) (f a.plan) → r.count ≡ count_for f xs
     unfolding planned
-    count-for f r q = ap (λ (x : Counted). x.count) q ∙ ap (λ (b : Planned). (counted (record_verdict b.plan) (f b.plan)).count) e
+    count_for_lem f r q = ap (λ (x : Counted). x.count) q ∙ ap (λ (b : Planned). (counted (record_verdict b.plan) (f b.plan)).count) e
         ∙ count_by f (plan_verdict xs) refl
 
-    pub buffer-for : (f : Record → Buffer) (r : Located) → r ≡ located (record_verdict a.plan) (f a.plan)
+    pub buffer_for : (f : Record → Buffer) (r : Located) → r ≡ located (record_verdict a.plan) (f a.plan)
         → buffer_number r.buffer ≡ count_for (λ (p : Record). buffer_number (f p)) xs
     unfolding planned
-    buffer-for f r q = ap (λ (x : Located). buffer_number x.buffer) q
-        ∙ ap (λ (b : Planned). buffer_number (located (record_verdict b.plan) (f b.plan)).buffer) e ∙ buffer-by f (plan_verdict xs) refl
+    buffer_for f r q = ap (λ (x : Located). buffer_number x.buffer) q
+        ∙ ap (λ (b : Planned). buffer_number (located (record_verdict b.plan) (f b.plan)).buffer) e ∙ buffer_by f (plan_verdict xs) refl
 
 -- 1 for a record that is accepted, 0 for one that is not
 module _ (p : Record) (b : Bool) (a : Accepts p b) where
-  pub accepts-one : b ≡ true → GivesAcceptance p 1
-  accepts-one e = record { one = (λ _. a.answer.0 e, λ _. refl); bit = omega arith }
+  pub accepts_one : b ≡ true → GivesAcceptance p 1
+  accepts_one e = record { one = (λ _. a.answer.0 e, λ _. refl); bit = omega arith }
 
-  pub accepts-none : b ≡ false → GivesAcceptance p 0
-  accepts-none e =
+  pub accepts_none : b ≡ false → GivesAcceptance p 0
+  accepts_none e =
       record { one = (λ (h : ◌≡◌ {A = ℕ} 0 1). absurd (omega arith), λ (h : Plannable p). absurd (false≢true (sym e ∙ a.answer.1 h))); bit = omega arith }
 
 -- scaling's answer put together from its fields and the verdict's two numbers
-pub crossed-by : (ins outs : List ℕ) (s : Scaled) → Scales ins outs s → (number place : ℕ) → number ≡ number_in s.verdict → place ≡ place_in s.verdict
+pub crossed_by : (ins outs : List ℕ) (s : Scaled) → Scales ins outs s → (number place : ℕ) → number ≡ number_in s.verdict → place ≡ place_in s.verdict
     → GivesScaling ins outs
     (record {
       number = number;
@@ -74,4 +75,4 @@ pub crossed-by : (ins outs : List ℕ) (s : Scaled) → Scales ins outs s → (n
       out_list = s.out_list;
     })
 unfolding crossed
-crossed-by ins outs s a number place p q = record { answer = rw (p, q) (ap crossed a.answer) }
+crossed_by ins outs s a number place p q = record { answer = rw (p, q) (ap crossed a.answer) }

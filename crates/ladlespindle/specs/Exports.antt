@@ -33,9 +33,9 @@ crossed s =
       out_list = s.out_list;
     }
 
--- what `ladlespindle_version` promises of its answer: 0.12.0
+-- what `ladlespindle_version` promises of its answer: 0.11.0
 pub record GivesVersion (r : ℕ) : Type 0 where
-  pub answer : r ≡ 10000 * 0 + 100 * 12 + 0
+  pub answer : r ≡ 10000 * 0 + 100 * 11 + 0
 
 -- what `ladlespindle_interface` promises of its answer
 pub record GivesInterface (r : ℕ) : Type 0 where

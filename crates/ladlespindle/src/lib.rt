@@ -98,7 +98,7 @@ pub struct Ran {
 pub extern "C" fn ladlespindle_version() -> u32
     ensures { GivesVersion result }
 {
-    1200
+    1100
 }
 
 // The number of the interface, raised whenever a struct, a signature or the meaning of an answer changes.

@@ -13,7 +13,8 @@ use Rattle.merging.specs.declared.inner.merging.Rule.TheVariants.{A, B, C, D, No
 
 -- ---- which rule comes first
 
-pub tally_is : (xs : List ℕ) (a b c d e f : ℕ) → a ≡ count_of 2 xs → b ≡ count_of 3 xs → c ≡ count_of 4 xs → d ≡ count_of 5 xs → e ≡ count_of 7 xs → f ≡ count_of 8 xs
+pub tally_is : (xs : List ℕ) (a b c d e f : ℕ) → a ≡ count_of 2 xs → b ≡ count_of 3 xs → c ≡ count_of 4 xs → d ≡ count_of 5 xs → e ≡ count_of 7 xs → f ≡
+    count_of 8 xs
     → ◌≡◌ {A = Tally} (record { twos = a; threes = b; fours = c; fives = d; sevens = e; eights = f }) (tally xs)
 unfolding tally
 tally_is xs a b c d e f p q r s t u = rw (p, q, r, s, t, u)
@@ -181,7 +182,8 @@ rules_same zero j t p q = let e = none_at t (omega arith) in rules_none zero t e
 rules_same (suc k) zero t p q = let e = none_at t (omega arith) in rules_none (suc k) t e ∙ sym (rules_none zero t e)
 rules_same (suc k) (suc j) t p q = ⊎_elim (λ e. rules_none (suc k) t e ∙ sym (rules_none (suc j) t e)) (λ m.
     let f = falls_at t m in
-    rules_some k t m ∙ ap (λ (rs : List Rule). first_rule t ∷ rs) (rules_same k j (merge (first_rule t) t) (omega arith) (omega arith)) ∙ sym (rules_some j t m))
+    rules_some k t m ∙ ap (λ (rs : List Rule). first_rule t ∷ rs) (rules_same k j (merge (first_rule t) t) (omega arith) (omega arith)) ∙ sym (rules_some
+    j t m))
     (merges? (first_rule t))
 
 pub rules_stop : (t : Tally) → first_rule t ≡ None → rules t ≡ []

@@ -61,7 +61,8 @@ near G K x y h e b g l k (p, q) (v, w) =
     close : e ≤ 777840 * G
     close = rw k (plain b (G + 2 ^ 36 * K) l (omega arith))
 
-pub house_nearest : (G : ℕ) (c s : ℕ → ℕ) → 2 ^ 96 ≤ G → RuleAt G c s 840 → (b : ℕ) → b ≤ 840 → Nearest G (c b) (house_cosine b) × Nearest G (s b) (house_sine b)
+pub house_nearest : (G : ℕ) (c s : ℕ → ℕ) → 2 ^ 96 ≤ G → RuleAt G c s 840 → (b : ℕ) → b ≤ 840 → Nearest G (c b) (house_cosine b) × Nearest G (s b)
+    (house_sine b)
 house_nearest G c s g r b l =
     let a = apart G (2 ^ 96) c s fine_cosine fine_sine (le_trans (lit≤ tt) g) (lit≤ tt) r fine_rule small b l in (
       near G (2 ^ 60) (c b) (fine_cosine b) (house_cosine b) (463 * b * (G + 2 ^ 96)) b g l refl a.0 (cosine_rounds b l),

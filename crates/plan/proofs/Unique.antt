@@ -55,7 +55,8 @@ one_plan r p =
 
 -- [2, 2, 3] is halved first, so that nothing is left to merge
 pub halved_first : (planned (2 ∷ 2 ∷ 3 ∷ [])).merges.count ≡ 0
-unfolding planned plan_verdict first_bad first_that is_radix first_over product accepted_plan marked letters rules rules_up_to first_rule applies tally count_of half
+unfolding planned plan_verdict first_bad first_that is_radix first_over product accepted_plan marked letters rules rules_up_to first_rule applies tally
+    count_of half
     halving halved index_of
 halved_first = refl
 

@@ -36,7 +36,8 @@ nothing = refl
 
 -- the list 3, 2, 2
 twelve : report_of (ascii "3 2 2\n") ≡ ascii "n 12\nhalf 6\nfactors 2 3\nmerges 0\nstage 4\nend 2\nresult data\n"
-unfolding report_of radices tokens tokens_from is_blank radix_of digit_value is_radix planned plan_verdict first_bad first_that first_over product accepted_plan record_of
+unfolding report_of radices tokens tokens_from is_blank radix_of digit_value is_radix planned plan_verdict first_bad first_that first_over product
+    accepted_plan record_of
     factors sorted merged merged_by rules rules_up_to first_rule applies merge tally count_of half halving halved index_of letters marked padded plan_lines
     factor_words twiddle_start twiddle_count radix end_count result_in decimal last_digits
 twelve = refl

@@ -1,6 +1,7 @@
 -- Laws of scaling: the smallest power of two that reaches the target, the radices that it adds, and how many fit. Assumes nothing.
 use Rattle.sequences.proofs.Basics.{◌≡◌, refl, sym, ap, ◌∙◌, ℕ, zero, suc, ◌+◌, ◌-◌, ◌*◌, ◌/◌, ◌%◌, ◌^◌, ◌<◌, ◌≤◌, one-mul, mul-one, mul_assoc, mul-le-mul}
-use Rattle.sequences.proofs.Basics.{mul-le-mul_left, pow-suc, pow-succ', mul_comm, lt_of_not-le, add-one, arith, dec_le, Bool, true, false, cond, dite, List, []}
+use Rattle.sequences.proofs.Basics.{mul-le-mul_left, pow-suc, pow-succ', mul_comm, lt_of_not-le, add-one, arith, dec_le, Bool, true, false, cond}
+use Rattle.sequences.proofs.Basics.{dite, List, []}
 use Rattle.sequences.proofs.Basics.{◌∷◌, ◌++◌, append-nil, append_assoc, eqb, ltb, length, set, paste, replicate, length-append, length-replicate, pow-add}
 use Rattle.sequences.proofs.Basics.{pow-lt}
 use Rattle.sequences.proofs.Basics.{pow_mono, eq-eqb, ne_eqb, le-leb, lt-leb, lt-ltb, le-ltb}

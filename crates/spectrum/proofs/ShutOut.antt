@@ -35,11 +35,13 @@ abbrev room : Slices
 room = (+0 ∷ +0 ∷ +0 ∷ +0 ∷ [], +0 ∷ +0 ∷ +0 ∷ +0 ∷ +0 ∷ +0 ∷ +0 ∷ +0 ∷ +0 ∷ +0 ∷ +0 ∷ +0 ∷ [])
 
 pulse_taken : forward_verdict two 1 pulse 4 12 [] [] ≡ Accepted
-unfolding lent_verdict is_planned in_order sized product tally sorted padded eq_list count_of is_width twiddle_start end_count first_unfit first_that fits of_bits
+unfolding lent_verdict is_planned in_order sized product tally sorted padded eq_list count_of is_width twiddle_start end_count first_unfit first_that fits
+    of_bits
 pulse_taken = refl
 
 silence_taken : forward_verdict two 1 silence 4 12 [] [] ≡ Accepted
-unfolding lent_verdict is_planned in_order sized product tally sorted padded eq_list count_of is_width twiddle_start end_count first_unfit first_that fits of_bits
+unfolding lent_verdict is_planned in_order sized product tally sorted padded eq_list count_of is_width twiddle_start end_count first_unfit first_that fits
+    of_bits
 silence_taken = refl
 
 -- the first number of the spectrum

@@ -35,7 +35,8 @@ module _ (stage end : List Float) (n : ℕ) (e : n ≡ first_unfit 0 stage) wher
   in_ends l i f = sym (joined_second (λ (x : Float). not (fits 0 x)) stage end (rw (← e) l) ∙ ap (λ (u : ℕ). length stage + u) (sym f))
 
 -- where none of either is, none is of both
-pub all_fit : (stage end : List Float) → length stage ≤ first_unfit 0 stage → length end ≤ first_unfit 0 end → length (stage ++ end) ≤ first_unfit 0 (stage ++ end)
+pub all_fit : (stage end : List Float) → length stage ≤ first_unfit 0 stage → length end ≤ first_unfit 0 end → length (stage ++ end) ≤ first_unfit 0
+    (stage ++ end)
 all_fit stage end l m = omega (arith, length-append stage end, in_ends stage end _ refl l _ refl)
 
 -- ---- what an accepted call tells

@@ -4,7 +4,6 @@ use Rattle.sequences.proofs.Basics.{eq-eqb, ne_eqb}
 use lib.Ieee.{Float, binary32, round, neg}
 use Rattle.house.specs.declared.inner.entries.Entry.{Entry}
 use Rattle.house.specs.Entries.{entry_of}
-use Rattle.house.specs.Rule.{cosine, sine}
 use Rattle.house.proofs.Rule.{Some}
 use Rattle.house.proofs.Nearest.{neg_round}
 use Rattle.house.proofs.Entries.{Both, entry_fits}

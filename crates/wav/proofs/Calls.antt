@@ -106,7 +106,8 @@ read_accepted file room a e =
     let it : Accepted ≡ with_room Accepted room (walk_of file).samples = search deciding depth 10 in
     ap (λ (v : Verdict). with_room v room (walk_of file).samples) a ∙ sym it
 
-pub read_short : (file : List ℕ) (room : ℕ) → (walk_of file).verdict ≡ Accepted → (room ≡ (walk_of file).samples → ⊥) → read_verdict file room ≡ Refused (Length 1)
+pub read_short : (file : List ℕ) (room : ℕ) → (walk_of file).verdict ≡ Accepted → (room ≡ (walk_of file).samples → ⊥) → read_verdict file room ≡ Refused
+    (Length 1)
 unfolding read_verdict
 read_short file room a n =
     let it : Refused (Length 1) ≡ with_room Accepted room (walk_of file).samples = search deciding depth 10 in

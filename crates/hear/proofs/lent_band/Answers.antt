@@ -1,5 +1,5 @@
 -- `hear::lent_band` meets its contract. Assumes nothing.
-use Rattle.sequences.proofs.Basics.{refl, sym, ◌∙◌, rules}
+use Rattle.sequences.proofs.Basics.{refl, sym, ◌∙◌}
 use Rattle.refusal.proofs.Rows.{deciding}
 use Rattle.hear.specs.Hear.{hear_verdict}
 use Rattle.hear.proofs.Verdicts.{band_after}

@@ -1,5 +1,5 @@
 -- `ladlespindle::as_numbers` meets its contract. Assumes nothing.
-use Rattle.sequences.proofs.Basics.{ap₂, ℕ, rules}
+use Rattle.sequences.proofs.Basics.{ap₂, ℕ}
 use Rattle.ladlespindle.specs.Calls.{wav_as}
 use Rattle.ladlespindle.proofs.as_numbers.Goals as goal
 

@@ -1,5 +1,5 @@
 -- `ladlespindle::holder` meets its contract. Assumes nothing.
-use Rattle.sequences.proofs.Basics.{sym, ap, ◌∙◌, rules}
+use Rattle.sequences.proofs.Basics.{sym, ap, ◌∙◌}
 use Rattle.refusal.specs.Refusal.{left}
 use Rattle.refusal.specs.declared.Verdict.{Verdict}
 use Rattle.counts.specs.Counts.{buffer_number, result_in}

@@ -1,7 +1,7 @@
 -- `ladlespindle::ladlespindle_fill_forward` meets its contract. Assumes nothing.
 use Rattle.ladlespindle.proofs.Crossing.{crossed_over}
-use Rattle.sequences.proofs.Basics.{rules}
 use Rattle.ladlespindle.proofs.ladlespindle_fill_forward.Goals as goal
 
 pub returns : goal.returns
-returns c = let o = c.fill_forward-verdict in crossed_over _ _ _ o.result (o.last.1.1.0, o.last.1.1.1.0) _ _ o.ensures c.number.ensures.answer c.place.ensures.answer
+returns c = let o = c.fill_forward-verdict in crossed_over _ _ _ o.result (o.new.stage_twiddles, o.new.end_twiddles) _ _ o.ensures c.number.ensures.answer
+    c.place.ensures.answer

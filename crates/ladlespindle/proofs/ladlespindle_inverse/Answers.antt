@@ -1,8 +1,7 @@
 -- `ladlespindle::ladlespindle_inverse` meets its contract. Assumes nothing.
 use Rattle.ladlespindle.proofs.Crossing.{crossed_over}
-use Rattle.sequences.proofs.Basics.{rules}
 use Rattle.ladlespindle.proofs.ladlespindle_inverse.Goals as goal
 
 pub returns : goal.returns
-returns c = let o = c.inverse-verdict in crossed_over _ _ _ o.result (o.last.1.1.1.0, o.last.1.1.1.1.0) _ _ o.ensures c.number.ensures.answer
+returns c = let o = c.inverse-verdict in crossed_over _ _ _ o.result (o.new.output, o.new.scratch) _ _ o.ensures c.number.ensures.answer
     c.place.ensures.answer

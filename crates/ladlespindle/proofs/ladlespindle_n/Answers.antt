@@ -1,5 +1,5 @@
 -- `ladlespindle_n` meets its promise: the length in the answer of planning. Assumes nothing.
-use Rattle.sequences.proofs.Basics.{ap, rules}
+use Rattle.sequences.proofs.Basics.{ap}
 use Rattle.plan.specs.declared.Planned.{Planned}
 use Rattle.ladlespindle.proofs.ladlespindle_n.Goals as goal
 

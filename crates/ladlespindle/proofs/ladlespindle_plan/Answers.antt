@@ -1,5 +1,5 @@
 -- `ladlespindle_plan` meets its promise: the record of the answer of planning. Assumes nothing.
-use Rattle.sequences.proofs.Basics.{ap, rules}
+use Rattle.sequences.proofs.Basics.{ap}
 use Rattle.plan.specs.declared.Planned.{Planned}
 use Rattle.ladlespindle.proofs.ladlespindle_plan.Goals as goal
 

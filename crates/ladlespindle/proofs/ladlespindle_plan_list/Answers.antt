@@ -1,5 +1,5 @@
 -- `ladlespindle::ladlespindle_plan_list` meets its contract. Assumes nothing.
-use Rattle.sequences.proofs.Basics.{ap, ap₂, ◌∙◌, ℕ, rules}
+use Rattle.sequences.proofs.Basics.{ap, ap₂, ◌∙◌, ℕ}
 use Rattle.refusal.specs.Refusal.{number_in, place_in}
 use Rattle.plan.specs.declared.Planned.{Planned}
 use Rattle.ladlespindle.specs.Exports.{planned_as}

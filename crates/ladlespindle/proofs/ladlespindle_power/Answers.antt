@@ -1,5 +1,5 @@
 -- `ladlespindle::ladlespindle_power` meets its contract. Assumes nothing.
-use Rattle.sequences.proofs.Basics.{ap, ap₂, ◌∙◌, ℕ, rules}
+use Rattle.sequences.proofs.Basics.{ap, ap₂, ◌∙◌, ℕ}
 use Rattle.ladlespindle.specs.Calls.{power_as, powered}
 use Rattle.ladlespindle.proofs.ladlespindle_power.Goals as goal
 

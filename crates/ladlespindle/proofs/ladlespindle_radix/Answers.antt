@@ -1,5 +1,5 @@
 -- `ladlespindle_radix` meets its promise: an entry of the radices that planning answers. Assumes nothing.
-use Rattle.sequences.proofs.Basics.{ap, ◌∙◌, get_or, rules}
+use Rattle.sequences.proofs.Basics.{ap, ◌∙◌, get_or}
 use Rattle.plan.specs.declared.Planned.{Planned}
 use Rattle.ladlespindle.proofs.ladlespindle_radix.Goals as goal
 

@@ -1,5 +1,5 @@
 -- `ladlespindle_refusal_number` meets its promise: the number of the verdict of planning. Assumes nothing.
-use Rattle.sequences.proofs.Basics.{ap, ◌∙◌, rules}
+use Rattle.sequences.proofs.Basics.{ap, ◌∙◌}
 use Rattle.refusal.specs.Refusal.{number_in}
 use Rattle.plan.specs.declared.Planned.{Planned}
 use Rattle.ladlespindle.proofs.ladlespindle_refusal_number.Goals as goal

@@ -1,7 +1,6 @@
 -- `ladlespindle::ladlespindle_remainder_stage` meets its contract. Assumes nothing.
 use Rattle.ladlespindle.proofs.Crossing.{crossed_over}
-use Rattle.sequences.proofs.Basics.{rules}
 use Rattle.ladlespindle.proofs.ladlespindle_remainder_stage.Goals as goal
 
 pub returns : goal.returns
-returns c = let o = c.stage-verdict in crossed_over _ _ _ o.result o.last.1.1.1.1.1.0 _ _ o.ensures c.number.ensures.answer c.place.ensures.answer
+returns c = let o = c.stage-verdict in crossed_over _ _ _ o.result o.new.other _ _ o.ensures c.number.ensures.answer c.place.ensures.answer

@@ -1,6 +1,5 @@
 -- `ladlespindle::ladlespindle_turn` meets its contract. Assumes nothing.
 use Rattle.ladlespindle.proofs.Crossing.{turn_accepted, turn_refused}
-use Rattle.sequences.proofs.Basics.{rules}
 use Rattle.ladlespindle.proofs.ladlespindle_turn.Goals as goal
 
 pub returns-in-Accepted : goal.returns-in-Accepted

@@ -1,5 +1,5 @@
 -- `ladlespindle::ladlespindle_wav_read` meets its contract. Assumes nothing.
-use Rattle.sequences.proofs.Basics.{ap, ◌∙◌, rules}
+use Rattle.sequences.proofs.Basics.{ap, ◌∙◌}
 use Rattle.ladlespindle.specs.Calls.{crossed_wav}
 use Rattle.ladlespindle.proofs.ladlespindle_wav_read.Goals as goal
 

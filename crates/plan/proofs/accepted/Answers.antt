@@ -16,7 +16,8 @@ slice_bounds-counts_of-end c = sym (length-take-le _ _ (half_fits c.args.list.no
     c.half_list-half.ensures))
 
 pub merge_all-merged-requires : goal.merge_all-merged-requires
-merge_all-merged-requires c = half_total c.args.list.now (accepted_good c.args.list.now c.requires.0) c.half_list-half.result c.half_list-half.ensures c.counts_of.result
+merge_all-merged-requires c = half_total c.args.list.now (accepted_good c.args.list.now c.requires.0) c.half_list-half.result c.half_list-half.ensures
+    c.counts_of.result
     c.counts_of.ensures
 
 pub size-requires : goal.size-requires

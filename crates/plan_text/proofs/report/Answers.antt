@@ -1,5 +1,5 @@
 -- `plan_text::report` meets its promise: what is read, planned and printed is what the definition says. Assumes nothing.
-use Rattle.sequences.proofs.Basics.{sym, ap, ◌∙◌, ℕ, arith, take, length-take, length-take-le, rules}
+use Rattle.sequences.proofs.Basics.{sym, ap, ◌∙◌, ℕ, arith, take, length-take, length-take-le}
 use Rattle.refusal.specs.declared.Verdict.{Verdict}
 use Rattle.plan.specs.Record.{planned}
 use Rattle.tokens.specs.Tokens.{radices}
@@ -24,11 +24,13 @@ plan_lines-requires c = planned_ok _ c.plan-answer.result c.plan-answer.ensures.
     c.in-Accepted.is
 
 pub returns-in-Accepted : goal.returns-in-Accepted
-returns-in-Accepted c = let input = c.args.input.now in let a = c.plan-answer in reported (ap (λ (v : Verdict). lines_by v a.result.plan a.result.merges) (sym c.in-Accepted.is) ∙ ap lines_of (a.ensures.answer
+returns-in-Accepted c = let input = c.args.input.now in let a = c.plan-answer in reported (ap (λ (v : Verdict). lines_by v a.result.plan a.result.merges)
+    (sym c.in-Accepted.is) ∙ ap lines_of (a.ensures.answer
     ∙ ap planned (c.read_radices-tokens.ensures.answer
     ∙ ap radices (ap (λ (k : ℕ). take k input) c.least-read.ensures ∙ take_least 4096 input)))) c.plan_lines.ensures
 
 pub returns-in-Refused : goal.returns-in-Refused
-returns-in-Refused c = let input = c.args.input.now in let a = c.plan-answer in reported (ap (λ (v : Verdict). lines_by v a.result.plan a.result.merges) (sym c.in-Refused.is) ∙ ap lines_of
+returns-in-Refused c = let input = c.args.input.now in let a = c.plan-answer in reported (ap (λ (v : Verdict). lines_by v a.result.plan a.result.merges)
+    (sym c.in-Refused.is) ∙ ap lines_of
     (a.ensures.answer ∙ ap planned (c.read_radices-tokens.ensures.answer
     ∙ ap radices (ap (λ (k : ℕ). take k input) c.least-read.ensures ∙ take_least 4096 input)))) c.refusal_line.ensures

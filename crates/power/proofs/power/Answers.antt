@@ -1,5 +1,5 @@
 -- `power::power` meets its contract. Assumes nothing.
-use Rattle.sequences.proofs.Basics.{sym, ap, ◌∙◌, ◌+◌, ◌-◌, arith, rules}
+use Rattle.sequences.proofs.Basics.{sym, ap, ◌∙◌, ◌+◌, ◌-◌, arith}
 use lib.Ieee.{Float}
 use Rattle.refusal.specs.declared.Verdict.{Verdict}
 use Rattle.refusal.specs.declared.Verdict.TheVariants.{Accepted}

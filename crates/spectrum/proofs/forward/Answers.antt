@@ -1,5 +1,5 @@
 -- `spectrum::forward` meets its contract. Assumes nothing.
-use Rattle.sequences.proofs.Basics.{refl, sym, ◌∙◌, length, rules}
+use Rattle.sequences.proofs.Basics.{refl, sym, ◌∙◌, length}
 use lib.Ieee.{of_bits}
 use Rattle.refusal.proofs.Rows.{settles_refused, settles_accepted}
 use Rattle.spectrum.proofs.Verdicts.{forwardable}
@@ -7,13 +7,14 @@ use Rattle.spectrum.proofs.forward.Goals as goal
 
 pub forward-requires : goal.forward-requires
 unfolding of_bits
-forward-requires c = let a = c.args in forwardable a.plan a.width a.input.now (length a.output.now) (length a.scratch.now) a.stage-twiddles.now a.end-twiddles.now _
+forward-requires c = let a = c.args in forwardable a.plan a.width a.input.now (length a.output.now) (length a.scratch.now) a.stage_twiddles.now
+    a.end_twiddles.now _
     (rw c.is_bins-is_output.ensures at (c.lent.ensures 32 refl)) c.in-Accepted.is
 
 pub returns-in-Accepted : goal.returns-in-Accepted
 unfolding of_bits
 returns-in-Accepted c = let made = c.forward.ensures in let told = rw c.is_bins-is_output.ensures at (c.lent.ensures 32 refl) in
-    settles_accepted _ _ _ _ (sym c.in-Accepted.is ∙ told) (λ i. (made.0 i, made.1 i))
+    settles_accepted _ _ _ _ (sym c.in-Accepted.is ∙ told) (λ i. (made.output_after i, made.scratch_after i))
 
 pub returns-in-Refused : goal.returns-in-Refused
 unfolding of_bits

@@ -1,5 +1,5 @@
 -- `spectrum::inverse` meets its contract. Assumes nothing.
-use Rattle.sequences.proofs.Basics.{refl, sym, ◌∙◌, length, rules}
+use Rattle.sequences.proofs.Basics.{refl, sym, ◌∙◌, length}
 use lib.Ieee.{of_bits}
 use Rattle.refusal.proofs.Rows.{settles_refused, settles_accepted}
 use Rattle.spectrum.proofs.Verdicts.{invertible}
@@ -8,13 +8,13 @@ use Rattle.spectrum.proofs.inverse.Goals as goal
 pub inverse-requires : goal.inverse-requires
 unfolding of_bits
 inverse-requires c = let a = c.args in invertible a.plan a.width _ _ (length a.input.now) (length a.output.now) (length a.scratch.now) 48 a.input.now
-    a.stage-twiddles.now a.end-twiddles.now _ c.is_bins-is_input.ensures refl
+    a.stage_twiddles.now a.end_twiddles.now _ c.is_bins-is_input.ensures refl
     (c.lent.ensures 48 refl) c.in-Accepted.is
 
 pub returns-in-Accepted : goal.returns-in-Accepted
 unfolding of_bits
 returns-in-Accepted c = let made = c.inverse.ensures in let told = rw c.is_bins-is_input.ensures at (c.lent.ensures 48 refl) in
-    settles_accepted _ _ _ _ (sym c.in-Accepted.is ∙ told) (λ i. (made.0 i, made.1 i))
+    settles_accepted _ _ _ _ (sym c.in-Accepted.is ∙ told) (λ i. (made.output_after i, made.scratch_after i))
 
 pub returns-in-Refused : goal.returns-in-Refused
 unfolding of_bits

@@ -1,5 +1,5 @@
 -- `stage::stage` meets its contract. Assumes nothing.
-use Rattle.sequences.proofs.Basics.{sym, ◌∙◌, length, rules}
+use Rattle.sequences.proofs.Basics.{sym, ◌∙◌, length}
 use Rattle.refusal.proofs.Rows.{settles_refused, settles_accepted}
 use Rattle.stage.proofs.Verdicts.{stage_workable}
 use Rattle.stage.proofs.stage.Goals as goal

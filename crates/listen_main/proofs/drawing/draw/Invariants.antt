@@ -1,5 +1,5 @@
 -- `draw` is safe and ends: the measure is how many bins are left. Assumes nothing.
-use Rattle.sequences.proofs.Basics.{◌≤◌, ◌-◌, length, rules}
+use Rattle.sequences.proofs.Basics.{◌≤◌, ◌-◌, length}
 use Rattle.listen_main.proofs.drawing.draw.Given as goal
 
 abbrev pub invariant-loop-at : goal.invariant-loop-at

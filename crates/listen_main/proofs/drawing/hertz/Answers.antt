@@ -1,5 +1,5 @@
 -- `hertz` is safe: the product is at most that of the bounds. Assumes nothing.
-use Rattle.sequences.proofs.Basics.{◌≤◌, ◌*◌, arith, mul-le-mul, rules}
+use Rattle.sequences.proofs.Basics.{◌≤◌, ◌*◌, arith, mul-le-mul}
 use Rattle.listen_main.proofs.drawing.hertz.Goals as goal
 
 -- the product

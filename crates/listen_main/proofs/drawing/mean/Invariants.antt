@@ -1,5 +1,5 @@
 -- `mean` is safe and ends: the measure is how many bins are left. Assumes nothing.
-use Rattle.sequences.proofs.Basics.{◌≤◌, ◌-◌, length, rules}
+use Rattle.sequences.proofs.Basics.{◌≤◌, ◌-◌, length}
 use Rattle.listen_main.proofs.drawing.mean.Given as goal
 
 abbrev pub invariant-loop-k : goal.invariant-loop-k

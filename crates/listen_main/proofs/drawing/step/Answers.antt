@@ -1,5 +1,4 @@
 -- `step` meets its contract: a power that passes the test is no NaN. Assumes nothing.
-use Rattle.sequences.proofs.Basics.{rules}
 use Rattle.levels.proofs.Steps.{no_nan}
 use Rattle.listen_main.proofs.drawing.step.Goals as goal
 

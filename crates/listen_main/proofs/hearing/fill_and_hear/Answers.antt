@@ -1,5 +1,5 @@
 -- `fill_and_hear` is safe: the house table has the turns of the window. Assumes nothing.
-use Rattle.sequences.proofs.Basics.{ap, ◌∙◌, rules}
+use Rattle.sequences.proofs.Basics.{ap, ◌∙◌}
 use Rattle.turn.specs.Turns.{housed}
 use Rattle.listen_main.proofs.hearing.fill_and_hear.Goals as goal
 

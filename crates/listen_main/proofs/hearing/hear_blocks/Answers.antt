@@ -1,6 +1,5 @@
 -- `hear_blocks` meets its contract, and ends: the measure is how many blocks may still be heard. Assumes nothing.
-use Rattle.sequences.proofs.Basics.{◌≡◌, ◌-◌, ◌≤◌, arith, length, rules}
-use Rattle.listen_main.specs.Hearing.{Runs}
+use Rattle.sequences.proofs.Basics.{◌-◌, arith, rules}
 use Rattle.listen_main.proofs.hearing.hear_blocks.Goals as goal
 
 pub next-c-requires : goal.next-c-requires

@@ -1,5 +1,5 @@
 -- `hear_blocks` meets its contract, and ends: the measure is how many blocks may still be heard. Assumes nothing.
-use Rattle.sequences.proofs.Basics.{◌≡◌, ◌-◌, ◌≤◌, arith, length, rules}
+use Rattle.sequences.proofs.Basics.{◌≡◌, ◌-◌, ◌≤◌, length}
 use Rattle.listen_main.specs.Hearing.{Runs}
 use Rattle.listen_main.proofs.hearing.hear_blocks.Given as goal
 

@@ -1,5 +1,5 @@
 -- `no_band` is safe: a quotient is at most what is divided. Assumes nothing.
-use Rattle.sequences.proofs.Basics.{arith, div-le_self, rules}
+use Rattle.sequences.proofs.Basics.{arith, div-le_self}
 use Rattle.listen_main.proofs.hearing.no_band.Goals as goal
 
 pub returns : goal.returns

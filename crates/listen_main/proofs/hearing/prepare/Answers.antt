@@ -1,5 +1,5 @@
 -- `prepare` is safe: a length that passes the test is served. Assumes nothing.
-use Rattle.sequences.proofs.Basics.{sym, ◌∙◌, rules}
+use Rattle.sequences.proofs.Basics.{sym, ◌∙◌}
 use Rattle.listen_main.proofs.Lengths.{served_block}
 use Rattle.listen_main.proofs.hearing.prepare.Goals as goal
 

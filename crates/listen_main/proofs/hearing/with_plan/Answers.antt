@@ -1,5 +1,5 @@
 -- `with_plan` is safe: the plan is one of the length that is served. Assumes nothing.
-use Rattle.sequences.proofs.Basics.{sym, subst, rules}
+use Rattle.sequences.proofs.Basics.{sym, subst}
 use Rattle.listen_main.specs.Hearing.{Served}
 use Rattle.listen_main.proofs.hearing.with_plan.Goals as goal
 

@@ -13,7 +13,8 @@ four-requires c = let a = c.args in omega (arith, (format_told a.window.now a.at
 
 pub returns-in-Accepted : goal.returns-in-Accepted
 unfolding at_format
-returns-in-Accepted c = let a = c.args in on_accepted _ _ _ _ c.format.ensures c.in-Accepted.is (c.chunk_at.ensures ∙ ap (chunk_at (a.at + 24)) c.four.ensures.answer)
+returns-in-Accepted c = let a = c.args in on_accepted _ _ _ _ c.format.ensures c.in-Accepted.is (c.chunk_at.ensures ∙ ap (chunk_at (a.at + 24))
+    c.four.ensures.answer)
 
 pub returns-in-Refused : goal.returns-in-Refused
 unfolding at_format

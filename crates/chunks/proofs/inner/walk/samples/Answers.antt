@@ -13,7 +13,8 @@ four-requires c = let a = c.args in omega (arith, (data_told a.window.now a.at a
 
 pub returns-in-Accepted : goal.returns-in-Accepted
 unfolding at_data
-returns-in-Accepted c = let a = c.args in on_accepted _ _ _ _ c.data.ensures c.in-Accepted.is (ap (λ (n : ℕ). samples_from (a.at + 8) a.rate (n / 2)) c.four.ensures.answer)
+returns-in-Accepted c = let a = c.args in on_accepted _ _ _ _ c.data.ensures c.in-Accepted.is (ap (λ (n : ℕ). samples_from (a.at + 8) a.rate (n / 2))
+    c.four.ensures.answer)
 
 pub returns-in-Refused : goal.returns-in-Refused
 unfolding at_data

@@ -15,7 +15,8 @@ begin-w-requires c = omega arith
 
 pub loop-w-init : goal.loop-w-init
 unfolding walk_of
-loop-w-init c = let file = c.args.file.now in subst (λ (w : Walk). Within (length file) w × (walked (room (rest file) (length file) w) (rest file) (length file) w ≡ walk_of file))
+loop-w-init c = let file = c.args.file.now in subst (λ (w : Walk). Within (length file) w × (walked (room (rest file) (length file) w) (rest file) (length
+    file) w ≡ walk_of file))
     (sym c.begin-w.ensures)
     (λ t. (begun_within file (length file) t).1, room_start (rest file) (length file))
 
@@ -37,9 +38,11 @@ loop-w-smaller c = let w = c.loop-w.w in let file = c.args.file.now in subst (λ
     (room_less (rest file) (length file) w c.loop-w-test.true)
 
 pub loop-w-preserved : goal.loop-w-preserved
-loop-w-preserved c = let w = c.loop-w.w in let file = c.args.file.now in subst (λ (r : Walk). Within (length file) r × (walked (room (rest file) (length file) r) (rest file) (length file) r ≡ walk_of file))
+loop-w-preserved c = let w = c.loop-w.w in let file = c.args.file.now in subst (λ (r : Walk). Within (length file) r × (walked (room (rest file) (length
+    file) r) (rest file) (length file) r ≡ walk_of file))
     (sym (c.step-w.ensures ∙ ap (λ (bs : List ℕ). stepped bs w.at w.rate (length file)) (take_rest w.at file)))
     (λ t. (step_further (drop w.at file) w.at w.rate (length file) t).1, room_same (rest file) (length file) w c.loop-w-test.true ∙ c.loop-w.invariant.1)
 
 pub returns : goal.returns
-returns c = let file = c.args.file.now in sym (walked_ended (rest file) (length file) (room (rest file) (length file) c.loop-w.w) c.loop-w.w c.loop-w-test.false) ∙ c.loop-w.invariant.1
+returns c = let file = c.args.file.now in sym (walked_ended (rest file) (length file) (room (rest file) (length file) c.loop-w.w) c.loop-w.w
+    c.loop-w-test.false) ∙ c.loop-w.invariant.1

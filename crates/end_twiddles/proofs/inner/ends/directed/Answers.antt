@@ -1,5 +1,5 @@
 -- `end_twiddles::inner::ends::directed` meets its contract. Assumes nothing.
-use Rattle.sequences.proofs.Basics.{sym, ap, rules}
+use Rattle.sequences.proofs.Basics.{sym, ap}
 use Rattle.end_twiddles.specs.Ends.{directed as directedOf}
 use Rattle.end_twiddles.specs.declared.inner.ends.Direction.{Direction}
 use Rattle.end_twiddles.proofs.inner.ends.directed.Goals as goal

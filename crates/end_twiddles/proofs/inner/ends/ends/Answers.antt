@@ -1,5 +1,5 @@
 -- `end_twiddles::inner::ends::ends` meets its contract. Assumes nothing.
-use Rattle.sequences.proofs.Basics.{◌∙◌, ◌≡◌, ap, refl, ◌+◌, ◌-◌, ◌<◌, ◌≤◌, ℕ, arith, length, rules}
+use Rattle.sequences.proofs.Basics.{◌∙◌, ap, refl, ◌+◌, ◌<◌, arith, length}
 use Rattle.sequences.specs.Pairs.{pair_at}
 use Rattle.sequences.proofs.Pairs.{length_put, pair_more}
 use lib.Ieee.{nan}

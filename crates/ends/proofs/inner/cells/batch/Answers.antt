@@ -1,5 +1,5 @@
 -- `ends::inner::cells::batch` meets its contract. Assumes nothing.
-use Rattle.sequences.proofs.Basics.{◌≡◌, refl, ap, subst, ◌∙◌, ℕ, ◌+◌, ◌-◌, ◌≤◌, ◌<◌, arith, length, rules}
+use Rattle.sequences.proofs.Basics.{◌≡◌, refl, ap, subst, ◌∙◌, ℕ, ◌+◌, ◌-◌, ◌<◌, arith}
 use Rattle.floats.specs.Complexes.{cell}
 use Rattle.mixing.specs.Parts.{steps_of}
 use Rattle.ends.specs.Parts.{Batched}
@@ -16,22 +16,17 @@ pub overflow_add-j : goal.overflow_add-j
 overflow_add-j c = omega (arith, c.loop-j-test.true, c.requires.short)
 
 pub loop-j-preserved : goal.loop-j-preserved
-loop-j-preserved c = let l = c.loop-j in let lt : l.j < c.args.len = c.loop-j-test.true in let x = c.args.cells.now in let at : c.args.h - c.args.k - l.j ≡ c.args.h - (c.args.k + l.j) = omega (arith, lt, c.requires.room) in
+loop-j-preserved c = let l = c.loop-j in let lt : l.j < c.args.len = c.loop-j-test.true in let x = c.args.cells.now in
+    let at : c.args.h - c.args.k - l.j ≡ c.args.h - (c.args.k + l.j) = omega (arith, lt, c.requires.room) in
     let a = c.get-a.ensures in let b = c.get-b.ensures ∙ ap (cell x) at in
     let t = c.get-t.ensures in (
       omega (arith, lt),
-      c.put.kept.0 ∙ l.invariant.1,
-      c.put-in-loop-j.kept.0 ∙ l.invariant.2,
+      c.put.auto.xs ∙ l.invariant.1,
+      c.put-in-loop-j.auto.xs ∙ l.invariant.2,
       batched_next (steps_of c.args.forward) c.args.h c.args.twiddles.now x c.args.k l.j l.ahead
           l.back _ _ _ _ (omega (arith, lt, c.requires.short)) (l.invariant.1 ∙ c.requires.ahead) (l.invariant.2 ∙ c.requires.back) l.invariant.3
           (c.near.ensures ∙ rw (a, b, t)) (c.far.ensures ∙ rw (a, b, t)) c.put.ensures c.put-in-loop-j.ensures,
     )
-
-pub shape_of-ahead : goal.shape_of-ahead
-shape_of-ahead c = c.loop-j.invariant.1
-
-pub shape_of-back : goal.shape_of-back
-shape_of-back c = c.loop-j.invariant.2
 
 pub returns : goal.returns
 returns c = let l = c.loop-j in let e : l.j ≡ c.args.len = omega (arith, l.invariant.0, c.loop-j-test.false) in

@@ -1,44 +1,37 @@
 -- `ends::inner::cells::end` meets its contract. Assumes nothing.
-use Rattle.sequences.proofs.Basics.{ap, ◌∙◌, arith, rules}
+use Rattle.sequences.proofs.Basics.{ap, ◌∙◌, arith}
 use Rattle.floats.specs.declared.complex.Complex.{Complex}
 use Rattle.mixing.specs.Parts.{steps_of}
-use Rattle.ends.specs.Parts.{Stepped}
 use Rattle.ends.proofs.Cells.{stepped_first, stepped_centre, stepped_all}
 use Rattle.ends.proofs.inner.cells.end.Goals as goal
 
--- after the pairs
-stepped : (c : goal.After-pairs-k)
-    → Stepped (steps_of c.args.forward)
-    c.args.h
-    c.args.twiddles.now
-    c.args.cells.now c.pairs-k.last.1.1.0
-    c.pairs-k.result
-stepped c =
-    let a = c.args in let f = steps_of a.forward in
-    let x = c.get-x.ensures in c.pairs-k.ensures.2 (stepped_first f a.h a.twiddles.now a.cells.now c.requires.0.some a.out.now c.requires.0.long _ _ _
-    (c.first.ensures ∙ ap (λ (z : Complex). f.first z a.y) x ∙ c.requires.2.first)
-    (c.last.ensures ∙ ap (λ (z : Complex). f.last z a.y) x ∙ c.requires.2.last) c.put_both.ensures)
-
 pub pairs-k-requires : goal.pairs-k-requires
 pairs-k-requires c = (
-  record { some = c.requires.0.some; few = c.requires.0.few; long = c.put_both.kept.0 ∙ c.requires.0.long; lent = c.requires.0.lent },
+  record { some = c.requires.0.some; few = c.requires.0.few; long = c.put_both.auto.cells ∙ c.requires.0.long; lent = c.requires.0.lent },
   c.requires.1,
 )
 
 pub put-requires : goal.put-requires
 put-requires c = omega (
   arith,
-  c.pairs-k.kept.1.1.0,
-  c.put_both.kept.0,
+  c.pairs-k.auto.out,
+  c.put_both.auto.cells,
   c.requires.0.long,
   c.if-k-h.true,
 )
 
 pub returns-then-k-h : goal.returns-then-k-h
-returns-then-k-h c = let a = c.args in let f = steps_of a.forward in
-    stepped_centre f a.h a.twiddles.now a.cells.now _ _ (stepped (c))
+returns-then-k-h c = let a = c.args in let f = steps_of a.forward in let x = c.get-x.ensures in
+    -- after the pairs
+    let stepped = c.pairs-k.ensures.2 (stepped_first f a.h a.twiddles.now a.cells.now c.requires.0.some a.out.now c.requires.0.long _ _ _
+    (c.first.ensures ∙ ap (λ (z : Complex). f.first z a.y) x ∙ c.requires.2.first)
+    (c.last.ensures ∙ ap (λ (z : Complex). f.last z a.y) x ∙ c.requires.2.last) c.put_both.ensures) in
+    stepped_centre f a.h a.twiddles.now a.cells.now _ _ stepped
     c.if-k-h.true _ _ (c.centre.ensures ∙ ap f.centre c.get-c.ensures) c.put.ensures
 
 pub returns-else-k-h : goal.returns-else-k-h
-returns-else-k-h c = let a = c.args in stepped_all (steps_of a.forward) a.h a.twiddles.now a.cells.now _ _ (stepped c)
-    c.pairs-k.ensures.0 c.if-k-h.false
+returns-else-k-h c = let a = c.args in let f = steps_of a.forward in let x = c.get-x.ensures in
+    let stepped = c.pairs-k.ensures.2 (stepped_first f a.h a.twiddles.now a.cells.now c.requires.0.some a.out.now c.requires.0.long _ _ _
+    (c.first.ensures ∙ ap (λ (z : Complex). f.first z a.y) x ∙ c.requires.2.first)
+    (c.last.ensures ∙ ap (λ (z : Complex). f.last z a.y) x ∙ c.requires.2.last) c.put_both.ensures) in
+    stepped_all f a.h a.twiddles.now a.cells.now _ _ stepped c.pairs-k.ensures.0 c.if-k-h.false

@@ -1,5 +1,5 @@
 -- `ends::inner::cells::put_both` meets its contract. Assumes nothing.
-use Rattle.sequences.proofs.Basics.{ap, ◌∙◌, List, rules}
+use Rattle.sequences.proofs.Basics.{ap, ◌∙◌, List}
 use lib.Ieee.{Float}
 use Rattle.floats.specs.Complexes.{put_cell}
 use Rattle.ends.proofs.inner.cells.put_both.Goals as goal

@@ -1,5 +1,5 @@
 -- `ends::inner::words::clear` meets its contract. Assumes nothing.
-use Rattle.sequences.proofs.Basics.{◌≡◌, refl, ◌∙◌, ◌-◌, ◌≤◌, arith, length, length-set, rules, ◌<◌, ℕ, get_or}
+use Rattle.sequences.proofs.Basics.{refl, ◌∙◌, arith, length-set}
 use Rattle.sequences.proofs.Tables.{set_more, table_all}
 use lib.Ieee.{nan}
 use Rattle.turn.specs.Turns.{+0}

@@ -1,6 +1,5 @@
 -- `ends::inner::words::clear` meets its contract. Assumes nothing.
-use Rattle.sequences.proofs.Basics.{◌≡◌, refl, ◌∙◌, ◌-◌, ◌≤◌, arith, length, length-set, rules, ◌<◌, ℕ, get_or}
-use Rattle.sequences.proofs.Tables.{set_more, table_all}
+use Rattle.sequences.proofs.Basics.{◌≡◌, ◌-◌, ◌≤◌, length, ◌<◌, ℕ, get_or}
 use lib.Ieee.{nan}
 use Rattle.turn.specs.Turns.{+0}
 use Rattle.ends.proofs.inner.words.clear.Given as goal

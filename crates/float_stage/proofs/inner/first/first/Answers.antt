@@ -1,118 +1,195 @@
 -- `float_stage::inner::first::first` meets its contract. Assumes nothing.
-use Rattle.sequences.proofs.Basics.{◌≡◌, refl, ◌∙◌, ℕ, ◌+◌, ◌-◌, ◌*◌, ◌≤◌, arith, true, ⊎_elim, length, rules}
+use Rattle.sequences.proofs.Basics.{◌≡◌, refl, ◌∙◌, ℕ, ◌+◌, ◌*◌, arith, true, length}
 use Rattle.radices.specs.Lists.{is_radix}
 use Rattle.floats.specs.declared.complex.Complex.{Complex}
 use Rattle.floats.specs.Complexes.{blank}
 use Rattle.kernel.specs.Parts.{output_of}
-use Rattle.storing.specs.Parts.{Wrote, Done}
+use Rattle.storing.specs.Parts.{Wrote}
 use Rattle.float_stage.proofs.First.{first_step, other, first_asks, room_at, first_arm}
 use Rattle.float_stage.proofs.inner.first.first.Goals as goal
-
-abbrev start : fn.Tie.In-loop Inv-loop μ-loop → fn.Tie.Start Inv-loop μ-loop
-start c = c.before.before.before.before.before
-
--- iteration i + j has room, as an arm with radix ρ written out asks for it
-room : (c : fn.Tie.In-loop Inv-loop μ-loop) (ρ : ℕ) → (start c).args.r ≡ ρ
-    → 2 * (((start c).args.i + c.before.loop.j) * ρ + ρ) ≤ length (start c).args.dst.now
-room c = let s = start c in room_at s.args.m s.args.r (s.args.i + c.before.loop.j) _ (omega arith) s.pre.2
+use Rattle.float_stage.proofs.inner.first.first.Goals.{in-2, in-3, in-4, in-5, in-7, in_default}
 
 pub loop-j-init : goal.loop-j-init
-unfolding is_radix
 loop-j-init c = (omega arith, refl, λ lent done i p li lp. done i p (omega arith) lp)
 
 pub cells-requires : goal.cells-requires
-unfolding is_radix
-cells-requires c = first_asks (start c).pre.0 2 c.in-2.is _ _ (omega arith)
+cells-requires c = first_asks c.requires.0 2 c.in-2.is _ _ (omega arith)
 
 pub overflow_mul-k : goal.overflow_mul-k
-unfolding is_radix
-overflow_mul-k c = omega (arith, room c 2 c.in-2.is)
+overflow_mul-k c =
+    omega (arith, room_at c.args.m c.args.r (c.args.i + c.loop-j.j) (length c.args.dst.now) (omega arith) c.requires.2 2 c.in-2.is)
 
 pub spread-requires : goal.spread-requires
-unfolding is_radix
-spread-requires c = (omega arith, omega (arith, room c 2 c.in-2.is, c.loop-j.invariant.1))
+spread-requires c = (
+  omega arith,
+  omega (
+    arith,
+    room_at c.args.m c.args.r (c.args.i + c.loop-j.j) (length c.args.dst.now) (omega arith) c.requires.2 2 c.in-2.is,
+    c.loop-j.invariant.1,
+  ),
+)
 
 pub cells-requires-in-3 : goal.cells-requires-in-3
-unfolding is_radix
-cells-requires-in-3 c = first_asks (start c).pre.0 3 c.in-3.is _ _ (omega arith)
+cells-requires-in-3 c = first_asks c.requires.0 3 c.in-3.is _ _ (omega arith)
 
 pub overflow_mul-k-in-3 : goal.overflow_mul-k-in-3
-unfolding is_radix
-overflow_mul-k-in-3 c = omega (arith, room c 3 c.in-3.is)
+overflow_mul-k-in-3 c =
+    omega (arith, room_at c.args.m c.args.r (c.args.i + c.loop-j.j) (length c.args.dst.now) (omega arith) c.requires.2 3 c.in-3.is)
 
 pub spread-requires-in-3 : goal.spread-requires-in-3
-unfolding is_radix
-spread-requires-in-3 c = (omega arith, omega (arith, room c 3 c.in-3.is, c.loop-j.invariant.1))
+spread-requires-in-3 c = (
+  omega arith,
+  omega (
+    arith,
+    room_at c.args.m c.args.r (c.args.i + c.loop-j.j) (length c.args.dst.now) (omega arith) c.requires.2 3 c.in-3.is,
+    c.loop-j.invariant.1,
+  ),
+)
 
 pub cells-requires-in-4 : goal.cells-requires-in-4
-unfolding is_radix
-cells-requires-in-4 c = first_asks (start c).pre.0 4 c.in-4.is _ _ (omega arith)
+cells-requires-in-4 c = first_asks c.requires.0 4 c.in-4.is _ _ (omega arith)
 
 pub overflow_mul-k-in-4 : goal.overflow_mul-k-in-4
-unfolding is_radix
-overflow_mul-k-in-4 c = omega (arith, room c 4 c.in-4.is)
+overflow_mul-k-in-4 c =
+    omega (arith, room_at c.args.m c.args.r (c.args.i + c.loop-j.j) (length c.args.dst.now) (omega arith) c.requires.2 4 c.in-4.is)
 
 pub spread-requires-in-4 : goal.spread-requires-in-4
-unfolding is_radix
-spread-requires-in-4 c = (omega arith, omega (arith, room c 4 c.in-4.is, c.loop-j.invariant.1))
+spread-requires-in-4 c = (
+  omega arith,
+  omega (
+    arith,
+    room_at c.args.m c.args.r (c.args.i + c.loop-j.j) (length c.args.dst.now) (omega arith) c.requires.2 4 c.in-4.is,
+    c.loop-j.invariant.1,
+  ),
+)
 
 pub cells-requires-in-5 : goal.cells-requires-in-5
-unfolding is_radix
-cells-requires-in-5 c = first_asks (start c).pre.0 5 c.in-5.is _ _ (omega arith)
+cells-requires-in-5 c = first_asks c.requires.0 5 c.in-5.is _ _ (omega arith)
 
 pub overflow_mul-k-in-5 : goal.overflow_mul-k-in-5
-unfolding is_radix
-overflow_mul-k-in-5 c = omega (arith, room c 5 c.in-5.is)
+overflow_mul-k-in-5 c =
+    omega (arith, room_at c.args.m c.args.r (c.args.i + c.loop-j.j) (length c.args.dst.now) (omega arith) c.requires.2 5 c.in-5.is)
 
 pub spread-requires-in-5 : goal.spread-requires-in-5
-unfolding is_radix
-spread-requires-in-5 c = (omega arith, omega (arith, room c 5 c.in-5.is, c.loop-j.invariant.1))
+spread-requires-in-5 c = (
+  omega arith,
+  omega (
+    arith,
+    room_at c.args.m c.args.r (c.args.i + c.loop-j.j) (length c.args.dst.now) (omega arith) c.requires.2 5 c.in-5.is,
+    c.loop-j.invariant.1,
+  ),
+)
 
 pub cells-requires-in-7 : goal.cells-requires-in-7
-unfolding is_radix
-cells-requires-in-7 c = first_asks (start c).pre.0 7 c.in-7.is _ _ (omega arith)
+cells-requires-in-7 c = first_asks c.requires.0 7 c.in-7.is _ _ (omega arith)
 
 pub overflow_mul-k-in-7 : goal.overflow_mul-k-in-7
-unfolding is_radix
-overflow_mul-k-in-7 c = omega (arith, room c 7 c.in-7.is)
+overflow_mul-k-in-7 c =
+    omega (arith, room_at c.args.m c.args.r (c.args.i + c.loop-j.j) (length c.args.dst.now) (omega arith) c.requires.2 7 c.in-7.is)
 
 pub spread-requires-in-7 : goal.spread-requires-in-7
-unfolding is_radix
-spread-requires-in-7 c = (omega arith, omega (arith, room c 7 c.in-7.is, c.loop-j.invariant.1))
+spread-requires-in-7 c = (
+  omega arith,
+  omega (
+    arith,
+    room_at c.args.m c.args.r (c.args.i + c.loop-j.j) (length c.args.dst.now) (omega arith) c.requires.2 7 c.in-7.is,
+    c.loop-j.invariant.1,
+  ),
+)
 
 pub cells-requires-in_default : goal.cells-requires-in_default
-unfolding is_radix
-cells-requires-in_default c = let p = (start c).pre.0 in first_asks p 8 (other p c.in_default.in_default-own.rest) _ _ (omega arith)
+cells-requires-in_default c = first_asks c.requires.0 8 (other c.requires.0 (
+  (
+    (
+      (
+        (tt {0}, λ (e : c.args.r ≡ 2). omega arith),
+        λ (e : c.args.r ≡ 3). omega
+            arith,
+      ),
+      λ (e : c.args.r ≡ 4). omega arith,
+    ),
+    λ (e : c.args.r ≡ 5). omega arith,
+  ),
+  λ (e : c.args.r ≡ 7). omega arith,
+)) _ _ (omega arith)
 
 pub overflow_mul-k-in_default : goal.overflow_mul-k-in_default
-unfolding is_radix
-overflow_mul-k-in_default c = omega (arith, room c 8 (other (start c).pre.0 c.in_default.in_default-own.rest))
+overflow_mul-k-in_default c =
+    omega (
+      arith,
+      room_at c.args.m c.args.r (c.args.i + c.loop-j.j) (length c.args.dst.now) (omega arith) c.requires.2 8 (other c.requires.0 (
+        (
+          (
+            (
+              (
+                tt {0},
+                λ (e : c.args.r ≡ 2). omega arith,
+              ),
+              λ (e : c.args.r ≡ 3). omega arith,
+            ),
+            λ (e : c.args.r ≡ 4). omega arith,
+          ),
+          λ (e : c.args.r ≡ 5). omega arith,
+        ),
+        λ
+            (e : c.args.r ≡ 7). omega arith,
+      )),
+    )
 
 pub spread-requires-in_default : goal.spread-requires-in_default
+spread-requires-in_default c = (
+  omega arith,
+  omega (
+    arith,
+    room_at c.args.m c.args.r (c.args.i + c.loop-j.j) (length c.args.dst.now) (omega arith) c.requires.2 8 (other c.requires.0 (
+      (
+        (((tt {0}, λ (e : c.args.r ≡ 2). omega arith), λ (e : c.args.r ≡ 3). omega arith), λ (e : c.args.r ≡ 4). omega arith),
+        λ (e : c.args.r ≡ 5).
+            omega arith,
+      ),
+      λ (e : c.args.r ≡ 7). omega arith,
+    )),
+    c.loop-j.invariant.1,
+  ),
+)
+
+pub outputs-requires-in_default : goal.outputs-requires-in_default
 unfolding is_radix
-spread-requires-in_default c = (omega arith, omega (arith, room c 8 (other (start c).pre.0 c.in_default.in_default-own.rest), c.loop-j.invariant.1))
+outputs-requires-in_default c = (refl, omega arith, omega arith)
 
 pub loop-j-preserved : goal.loop-j-preserved
-unfolding is_radix
-loop-j-preserved c = let s = start c in let a = s.args in let l = c.loop-j in let k = a.i + l.j in
-    let arm = first_arm s.pre.0 a.src.now a.tw.now k l.dst c.in_default.in_default-own.dst in
-    let w : (lent : ℕ → ℕ → Complex) → Wrote (output_of true a.m a.r a.src.now lent k) (k * a.r) a.r l.dst c.in_default.in_default-own.dst =
-    ⊎_elim (λ w. arm 2 w.0.keys1 w.1.result w.2.result w.1.ensures w.2.ensures w.4.last.1.0 w.4.ensures w.7)
-    (⊎_elim (λ w. arm 3 w.0.keys2 w.1.result w.2.result w.1.ensures w.2.ensures w.4.last.1.0 w.4.ensures w.7)
-    (⊎_elim (λ w. arm 4 w.0.keys3 w.1.result w.2.result w.1.ensures w.2.ensures w.4.last.1.0 w.4.ensures w.7)
-    (⊎_elim (λ w. arm 5 w.0.keys4 w.1.result w.2.result w.1.ensures w.2.ensures w.4.last.1.0 w.4.ensures w.7)
-    (⊎_elim (λ w. arm 7 w.0.keys5 w.1.result w.2.result w.1.ensures w.2.ensures w.4.last.1.0 w.4.ensures w.7)
-    (λ w. arm 8 (other s.pre.0 w.0.rest) w.1.result w.2.result w.1.ensures w.2.ensures w.4.last.1.0 w.4.ensures
-    w.7))))) c.in_default.in_default-own.came in (
+loop-j-preserved c =
+    let a = c.args in
+    let l = c.loop-j in
+    let k = a.i + l.j in
+    let arm = first_arm c.requires.0 a.src.now a.tw.now k l.dst c.match-r.dst in
+    let w : (lent : ℕ → ℕ → Complex) → Wrote (output_of true a.m a.r a.src.now lent k) (k * a.r) a.r l.dst c.match-r.dst =
+    elim c.match-r.branch [
+      | in-2 w ↦ arm 2 w.in-2.is w.cells.result w.outputs.result w.cells.ensures w.outputs.ensures _ w.spread.ensures w.dst-is
+      | in-3 w ↦ arm 3 w.in-3.is w.cells-in-3.result w.outputs-in-3.result w.cells-in-3.ensures w.outputs-in-3.ensures _ w.spread-in-3.ensures w.dst-is
+      | in-4 w ↦ arm 4 w.in-4.is w.cells-in-4.result w.outputs-in-4.result w.cells-in-4.ensures w.outputs-in-4.ensures _ w.spread-in-4.ensures w.dst-is
+      | in-5 w ↦ arm 5 w.in-5.is w.cells-in-5.result w.outputs-in-5.result w.cells-in-5.ensures w.outputs-in-5.ensures _ w.spread-in-5.ensures w.dst-is
+      | in-7 w ↦ arm 7 w.in-7.is w.cells-in-7.result w.outputs-in-7.result w.cells-in-7.ensures w.outputs-in-7.ensures _ w.spread-in-7.ensures w.dst-is
+      | in_default w ↦ arm 8 (other c.requires.0 (
+        (
+          (
+            ((tt {0}, λ (e : c.args.r ≡ 2). omega arith), λ (e : c.args.r ≡ 3). omega arith),
+            λ (e : c.args.r ≡
+                4). omega arith,
+          ),
+          λ (e : c.args.r ≡ 5). omega arith,
+        ),
+        λ (e : c.args.r ≡ 7). omega arith,
+      )) w.cells-in_default.result w.outputs-in_default.result
+          w.cells-in_default.ensures w.outputs-in_default.ensures _ w.spread-in_default.ensures w.dst-is
+    ] in (
       omega arith,
       (w (λ i q. blank)).size ∙ l.invariant.1,
-      λ lent done i p li lp. first_step a.r k _ l.dst c.in_default.in_default-own.dst (w lent) (l.invariant.2 lent done) i p (omega arith) lp,
+      λ lent done i p li lp. first_step a.r k _ l.dst c.match-r.dst (w lent) (l.invariant.2 lent done) i p (omega arith) lp,
     )
 
 pub shape_of-dst : goal.shape_of-dst
-unfolding is_radix
 shape_of-dst c = c.loop-j.invariant.1
 
 pub returns : goal.returns
-unfolding is_radix
-returns c = λ c lent done i p li lp. c.loop-j.invariant.2 lent done i p (omega arith) lp
+returns c = λ lent done i p li lp. c.loop-j.invariant.2 lent done i p (omega arith) lp

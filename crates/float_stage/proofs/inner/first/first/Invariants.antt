@@ -1,16 +1,14 @@
 -- `float_stage::inner::first::first` meets its contract. Assumes nothing.
-use Rattle.sequences.proofs.Basics.{◌≡◌, refl, ◌∙◌, ℕ, ◌+◌, ◌-◌, ◌*◌, ◌≤◌, arith, true, ⊎_elim, length, rules}
-use Rattle.radices.specs.Lists.{is_radix}
+use Rattle.sequences.proofs.Basics.{◌≡◌, ℕ, ◌+◌, ◌-◌, ◌≤◌, true, length}
 use Rattle.floats.specs.declared.complex.Complex.{Complex}
-use Rattle.floats.specs.Complexes.{blank}
 use Rattle.kernel.specs.Parts.{output_of}
-use Rattle.storing.specs.Parts.{Wrote, Done}
-use Rattle.float_stage.proofs.First.{first_step, other, first_asks, room_at, first_arm}
+use Rattle.storing.specs.Parts.{Done}
 use Rattle.float_stage.proofs.inner.first.first.Given as goal
 
 abbrev pub invariant-loop-j : goal.invariant-loop-j
-invariant-loop-j l = (l.j ≤ l.r) × (length l.dst ≡ length l.i)
-    × ((lent : ℕ → ℕ → Complex) → Done 1 l.initial.dst (output_of true l.len l.initial.dst l.src lent) l.i l.m → Done 1 l.initial.dst (output_of true l.len l.initial.dst l.src lent) l.dst (l.m + l.j))
+invariant-loop-j l = (l.j ≤ l.len) × (length l.dst ≡ length l.initial.dst)
+    × ((lent : ℕ → ℕ → Complex) → Done 1 l.r (output_of true l.m l.r l.src lent) l.initial.dst l.i → Done 1 l.r (output_of true l.m l.r l.src lent) l.dst
+    (l.i + l.j))
 
 abbrev pub decreases-loop-j : goal.decreases-loop-j
-decreases-loop-j l = l.r - l.j
+decreases-loop-j l = l.len - l.j

@@ -1,7 +1,5 @@
 -- `float_stage::inner::first::spread` meets its contract. Assumes nothing.
-use Rattle.sequences.proofs.Basics.{◌≡◌, refl, ◌+◌, ◌-◌, ◌*◌, ◌≤◌, ◌<◌, arith, get_or, length, rules}
-use Rattle.floats.specs.Complexes.{blank}
-use Rattle.storing.specs.Parts.{Wrote}
+use Rattle.sequences.proofs.Basics.{◌≡◌, refl, ◌+◌, ◌*◌, ◌<◌, arith, length}
 use Rattle.storing.proofs.Writes.{wrote_none, wrote_step, wrote_all}
 use Rattle.float_stage.proofs.inner.first.spread.Goals as goal
 
@@ -13,7 +11,7 @@ put-requires c = omega (arith, c.loop-p.invariant.1.size)
 
 pub loop-p-preserved : goal.loop-p-preserved
 loop-p-preserved c = let l = c.loop-p in let put = c.put in let room : 2 * (c.args.at + l.p) + 1 < length c.args.dst.now = omega arith in
-    (omega arith, wrote_step _ _ _ l.p l.dst put.last.0 _ room l.invariant.1 refl put.ensures)
+    (omega arith, wrote_step _ _ _ l.p l.dst _ _ room l.invariant.1 refl put.ensures)
 
 pub shape_of-dst : goal.shape_of-dst
 shape_of-dst c = c.loop-p.invariant.1.size

@@ -1,7 +1,6 @@
 -- `float_stage::inner::lent::fetch` meets its contract. Assumes nothing.
-use Rattle.sequences.proofs.Basics.{◌≡◌, refl, ◌∙◌, ◌-◌, ◌≤◌, arith, length, rules}
+use Rattle.sequences.proofs.Basics.{refl, ◌∙◌, arith}
 use Rattle.kernel.specs.Floats.{lent_at}
-use Rattle.lanes.specs.Parts.{Fetched}
 use Rattle.float_stage.proofs.Widths.{fetched_step, unlike}
 use Rattle.float_stage.proofs.inner.lent.fetch.Goals as goal
 
@@ -12,7 +11,12 @@ pub fetch_one-requires : goal.fetch_one-requires
 fetch_one-requires c = (rw c.loop-j.invariant.1 c.requires.0, c.requires.1 c.in-Apart.is, omega arith, omega arith)
 
 pub loop-j-preserved : goal.loop-j-preserved
-loop-j-preserved c = let a = c.args in let l = c.loop-j in let one = c.fetch_one in (omega arith, one.kept.1.0 ∙ l.invariant.1, fetched_step a.i l.j a.r (lent_at a.m a.r a.w a.tw.now) l.t _ one.ensures l.invariant.2)
+loop-j-preserved c = let a = c.args in let l = c.loop-j in let one = c.fetch_one in (
+  omega arith,
+  one.auto.t ∙ l.invariant.1,
+  fetched_step a.i l.j a.r
+      (lent_at a.m a.r a.w a.tw.now) l.t _ one.ensures l.invariant.2,
+)
 
 pub returns-in-Beside : goal.returns-in-Beside
 returns-in-Beside c = λ e. absurd (unlike c.in-Beside.is e)

@@ -1,12 +1,11 @@
 -- `float_stage::inner::lent::fetch` meets its contract. Assumes nothing.
-use Rattle.sequences.proofs.Basics.{◌≡◌, refl, ◌∙◌, ◌-◌, ◌≤◌, arith, length, rules}
+use Rattle.sequences.proofs.Basics.{◌≡◌, ◌-◌, ◌≤◌, length}
 use Rattle.kernel.specs.Floats.{lent_at}
 use Rattle.lanes.specs.Parts.{Fetched}
-use Rattle.float_stage.proofs.Widths.{fetched_step, unlike}
 use Rattle.float_stage.proofs.inner.lent.fetch.Given as goal
 
 abbrev pub invariant-loop-j : goal.invariant-loop-j
-invariant-loop-j l = (l.j ≤ l.r) × (length l.t ≡ length l.i) × Fetched l.m l.j l.w (lent_at l.len l.w l.initial.t l.tw) l.t
+invariant-loop-j l = (l.j ≤ l.len) × (length l.t ≡ length l.initial.t) × Fetched l.i l.j l.r (lent_at l.m l.r l.w l.tw) l.t
 
 abbrev pub decreases-loop-j : goal.decreases-loop-j
-decreases-loop-j l = l.r - l.j
+decreases-loop-j l = l.len - l.j

@@ -1,7 +1,5 @@
 -- `float_stage::inner::lent::gather` meets its contract. Assumes nothing.
-use Rattle.sequences.proofs.Basics.{◌≡◌, ◌+◌, ◌-◌, ◌*◌, ◌≤◌, ◌<◌, arith, length, rules}
-use Rattle.floats.specs.Complexes.{cell}
-use Rattle.storing.specs.Parts.{Wrote}
+use Rattle.sequences.proofs.Basics.{◌≡◌, ◌+◌, ◌*◌, ◌<◌, arith, length}
 use Rattle.storing.proofs.Writes.{wrote_none, wrote_step, wrote_all}
 use Rattle.float_stage.proofs.inner.lent.gather.Goals as goal
 
@@ -25,7 +23,7 @@ put-requires c = omega (arith, c.loop-u.invariant.1.size)
 
 pub loop-u-preserved : goal.loop-u-preserved
 loop-u-preserved c = let l = c.loop-u in let put = c.put in let room : 2 * (c.args.at + l.u) + 1 < length c.args.t.now = omega arith in
-    (omega arith, wrote_step _ _ _ l.u l.t put.last.0 _ room l.invariant.1 c.get-z.ensures put.ensures)
+    (omega arith, wrote_step _ _ _ l.u l.t _ _ room l.invariant.1 c.get-z.ensures put.ensures)
 
 pub shape_of-t : goal.shape_of-t
 shape_of-t c = c.loop-u.invariant.1.size

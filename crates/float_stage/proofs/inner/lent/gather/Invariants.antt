@@ -1,12 +1,11 @@
 -- `float_stage::inner::lent::gather` meets its contract. Assumes nothing.
-use Rattle.sequences.proofs.Basics.{◌≡◌, ◌+◌, ◌-◌, ◌*◌, ◌≤◌, ◌<◌, arith, length, rules}
+use Rattle.sequences.proofs.Basics.{◌+◌, ◌-◌, ◌*◌, ◌≤◌}
 use Rattle.floats.specs.Complexes.{cell}
 use Rattle.storing.specs.Parts.{Wrote}
-use Rattle.storing.proofs.Writes.{wrote_none, wrote_step, wrote_all}
 use Rattle.float_stage.proofs.inner.lent.gather.Given as goal
 
 abbrev pub invariant-loop-u : goal.invariant-loop-u
-invariant-loop-u l = (l.u ≤ l.step) × Wrote (λ k. cell l.tw (l.n + k * l.initial.t)) l.from l.u l.at l.t
+invariant-loop-u l = (l.u ≤ l.n) × Wrote (λ k. cell l.tw (l.from + k * l.step)) l.at l.u l.initial.t l.t
 
 abbrev pub decreases-loop-u : goal.decreases-loop-u
-decreases-loop-u l = l.step - l.u
+decreases-loop-u l = l.n - l.u

@@ -1,5 +1,5 @@
 -- `float_stage::inner::lent::lent` meets its contract. Assumes nothing.
-use Rattle.sequences.proofs.Basics.{refl, rules}
+use Rattle.sequences.proofs.Basics.{refl}
 use Rattle.float_stage.proofs.Widths.{rest, unlike}
 use Rattle.float_stage.proofs.inner.lent.lent.Goals as goal
 

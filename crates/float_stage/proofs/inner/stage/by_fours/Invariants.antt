@@ -1,16 +1,14 @@
 -- `float_stage::inner::stage::by_fours` meets its contract. Assumes nothing.
-use Rattle.sequences.proofs.Basics.{◌≡◌, refl, ◌+◌, ◌-◌, ◌*◌, ◌%◌, ◌≤◌, arith, false, length, rules}
+use Rattle.sequences.proofs.Basics.{◌≡◌, ◌-◌, ◌%◌, false}
 use Rattle.kernel.specs.Floats.{lent_at}
 use Rattle.kernel.specs.Parts.{output_of}
-use Rattle.lanes.specs.Parts.{Fetched4}
-use Rattle.storing.specs.Parts.{Even}
-use Rattle.storing.proofs.Batches.{even_fours, even_none}
-use Rattle.float_stage.proofs.Widths.{past_room, four_part}
-use Rattle.float_stage.proofs.Rounds.{placed_first, Round, round_asks, round_next}
+use Rattle.float_stage.proofs.Rounds.{Round}
 use Rattle.float_stage.proofs.inner.stage.by_fours.Given as goal
 
 abbrev pub invariant-loop-i : goal.invariant-loop-i
-invariant-loop-i l = (l.i % 4 ≡ 0) × Round l.initial.dst l.s l.r l.even (output_of false l.end l.even l.src (lent_at l.end l.even 4 l.tw)) 0 l.ra l.ia l.rb l.ib l.m l.dst l.at.block l.at.col l.i
+invariant-loop-i l =
+    (l.i % 4 ≡ 0) × Round l.even l.end l.s l.r (output_of false l.m l.r l.src (lent_at l.m l.r 4 l.tw)) 0 l.ra l.ia l.rb l.ib l.initial.dst l.dst
+    l.at.block l.at.col l.i
 
 abbrev pub decreases-loop-i : goal.decreases-loop-i
-decreases-loop-i l = l.s - l.i
+decreases-loop-i l = l.end - l.i

@@ -1,8 +1,5 @@
 -- `float_stage::inner::stage::first_stage` meets its contract. Assumes nothing.
-use Rattle.sequences.proofs.Basics.{◌≡◌, refl, ◌∙◌, ℕ, ◌-◌, ◌≤◌, ◌<◌, arith, true, length, rules}
-use Rattle.floats.specs.declared.complex.Complex.{Complex}
-use Rattle.kernel.specs.Parts.{output_of}
-use Rattle.storing.specs.Parts.{Done}
+use Rattle.sequences.proofs.Basics.{refl, ◌∙◌, ◌<◌, arith}
 use Rattle.float_stage.proofs.inner.stage.first_stage.Goals as goal
 
 pub loop-i-init : goal.loop-i-init
@@ -21,7 +18,7 @@ loop-i-smaller c = let n = c.least-len in let some : 0 < n.result = n.ensures.2 
 pub loop-i-preserved : goal.loop-i-preserved
 loop-i-preserved c = let l = c.loop-i in (
   omega (arith, c.least-len.ensures.0),
-  c.first.kept.1.1.0
+  c.first.auto.dst
       ∙ l.invariant.1,
   λ lent. c.first.ensures lent (l.invariant.2 lent),
 )

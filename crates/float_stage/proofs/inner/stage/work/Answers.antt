@@ -1,5 +1,5 @@
 -- `float_stage::inner::stage::work` meets its contract. Assumes nothing.
-use Rattle.sequences.proofs.Basics.{refl, ◌-◌, arith, rules}
+use Rattle.sequences.proofs.Basics.{refl, arith}
 use Rattle.plan.proofs.Bounds.{plan_order, plan_radix_bounds}
 use Rattle.float_stage.proofs.Works.{work_sized, work_room, work_lending, work_blocks, first_made, later_made}
 use Rattle.float_stage.proofs.inner.stage.work.Goals as goal
@@ -22,10 +22,10 @@ later_stage-requires c = (
 )
 
 pub returns-then-j-eq0 : goal.returns-then-j-eq0
-returns-then-j-eq0 c = let made = c.first_stage in first_made c.args.plan c.args.j c.args.w _ _ _ c.requires c.args.src.now c.args.tw.now _ refl made.kept.1.1.0
+returns-then-j-eq0 c = let made = c.first_stage in first_made c.args.plan c.args.j c.args.w _ _ _ c.requires c.args.src.now c.args.tw.now _ refl made.auto.dst
     c.if-j-eq0.true made.ensures
 
 pub returns-else-j-eq0 : goal.returns-else-j-eq0
-returns-else-j-eq0 c = let made = c.later_stage in later_made c.args.plan c.args.j c.args.w _ _ _ c.requires c.args.src.now c.args.tw.now _ refl made.kept.1.1.0
+returns-else-j-eq0 c = let made = c.later_stage in later_made c.args.plan c.args.j c.args.w _ _ _ c.requires c.args.src.now c.args.tw.now _ refl made.auto.dst
     c.if-j-eq0.false
     (rw (← c.stride.ensures) made.ensures)

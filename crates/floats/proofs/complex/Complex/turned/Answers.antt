@@ -1,5 +1,5 @@
 -- `floats::complex::Complex::turned` meets its contract. Assumes nothing.
-use Rattle.sequences.proofs.Basics.{◌∙◌, rules}
+use Rattle.sequences.proofs.Basics.{◌∙◌}
 use Rattle.floats.proofs.complex.Complex.turned.Goals as goal
 
 pub returns-in-Quarter : goal.returns-in-Quarter

@@ -1,5 +1,5 @@
 -- `floats::inner::words::paste` meets its contract. Assumes nothing.
-use Rattle.sequences.proofs.Basics.{◌≡◌, refl, ◌∙◌, ◌+◌, ◌-◌, ◌≤◌, arith, length, length-set, paste, paste-zero, rules}
+use Rattle.sequences.proofs.Basics.{refl, ◌∙◌, ◌+◌, arith, length-set, paste-zero}
 use Rattle.sequences.proofs.Pasted.{paste_next, paste_all}
 use lib.Ieee.{nan}
 use Rattle.floats.proofs.inner.words.paste.Goals as goal

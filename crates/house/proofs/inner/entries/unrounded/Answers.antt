@@ -1,5 +1,5 @@
 -- `house::inner::entries::unrounded` meets its contract. Assumes nothing.
-use Rattle.sequences.proofs.Basics.{◌∙◌, arith, rules}
+use Rattle.sequences.proofs.Basics.{◌∙◌, arith}
 use Rattle.house.proofs.Entries.{entry_plain, entry_exchanged, read_plain, read_exchanged, house_long}
 use Rattle.house.proofs.inner.entries.unrounded.Goals as goal
 

@@ -1,5 +1,5 @@
 -- `house::inner::rounding::closest` meets its contract. Assumes nothing.
-use Rattle.sequences.proofs.Basics.{◌∙◌, ◌/◌, ordering_lt, ordering_eq, ordering_gt, mod-lt, div-le_self, add-one, arith, rules}
+use Rattle.sequences.proofs.Basics.{◌∙◌, ◌/◌, ordering_lt, ordering_eq, ordering_gt, mod-lt, div-le_self, add-one, arith}
 use Rattle.house.proofs.Closest.{closest_by}
 use Rattle.house.proofs.inner.rounding.closest.Goals as goal
 

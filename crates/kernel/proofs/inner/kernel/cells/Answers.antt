@@ -1,11 +1,11 @@
 -- `kernel::inner::kernel::cells` meets its contract. Assumes nothing.
-use Rattle.sequences.proofs.Basics.{◌≡◌, refl, ◌∙◌, ℕ, ◌+◌, ◌-◌, ◌*◌, ◌≤◌, ◌<◌, arith, false, ⊎_elim, get_or, length, length-set, rules}
+use Rattle.sequences.proofs.Basics.{◌≡◌, refl, ◌∙◌, arith, length-set}
 use Rattle.sequences.proofs.Tables.{set_more}
-use Rattle.floats.specs.declared.complex.Complex.{Complex}
-use Rattle.floats.specs.Complexes.{blank, cell}
+use Rattle.floats.specs.Complexes.{blank}
 use Rattle.kernel.specs.Parts.{read_of}
 use Rattle.kernel.proofs.Kernel.{cell_room, read_plain, read_times}
 use Rattle.kernel.proofs.inner.kernel.cells.Goals as goal
+use Rattle.kernel.proofs.inner.kernel.cells.Goals.{then-first, else-first}
 
 pub get-z-requires : goal.get-z-requires
 get-z-requires c = omega (arith, cell_room c.args.i 0 c.args.m c.args.r _ (omega arith) (omega arith) c.requires.0.source)
@@ -54,10 +54,11 @@ loop-q-preserved c = let l = c.loop-q in let a = c.args in (
   rw length-set l.invariant.2,
   λ lent same.
       let v : c.if-first.c ≡ read_of a.first a.m a.src.now lent a.i l.q =
-      ⊎_elim (λ w. w.1 ∙ read_plain a.first a.m a.src.now lent a.i l.q _ l.invariant.0 w.0.taken c.get-x.ensures)
-      (λ w. w.3 ∙ read_times a.first a.m a.src.now lent a.i l.q _ _ _ l.invariant.0 w.0.left c.get-x.ensures
-      (w.1.ensures ∙ same w.0.left l.q l.invariant.0 (omega arith)) w.2.ensures)
-      c.if-first.branch in
+      elim c.if-first.branch [
+        | then-first w ↦ w.c-is ∙ read_plain a.first a.m a.src.now lent a.i l.q _ l.invariant.0 w.if-first.true c.get-x.ensures
+        | else-first w ↦ w.c-is ∙ read_times a.first a.m a.src.now lent a.i l.q _ _ _ l.invariant.0 w.if-first.false c.get-x.ensures
+            (w.get.ensures ∙ same w.if-first.false l.q l.invariant.0 (omega arith)) w.mul.ensures
+      ] in
       set_more _ l.c l.q _ blank (omega arith) v (l.invariant.3 lent same),
 )
 

@@ -1,10 +1,8 @@
 -- `kernel::inner::kernel::cells` meets its contract. Assumes nothing.
-use Rattle.sequences.proofs.Basics.{◌≡◌, refl, ◌∙◌, ℕ, ◌+◌, ◌-◌, ◌*◌, ◌≤◌, ◌<◌, arith, false, ⊎_elim, get_or, length, length-set, rules}
-use Rattle.sequences.proofs.Tables.{set_more}
+use Rattle.sequences.proofs.Basics.{◌≡◌, ℕ, ◌+◌, ◌-◌, ◌*◌, ◌≤◌, ◌<◌, false, get_or, length}
 use Rattle.floats.specs.declared.complex.Complex.{Complex}
 use Rattle.floats.specs.Complexes.{blank, cell}
 use Rattle.kernel.specs.Parts.{read_of}
-use Rattle.kernel.proofs.Kernel.{cell_room, read_plain, read_times}
 use Rattle.kernel.proofs.inner.kernel.cells.Given as goal
 
 abbrev pub invariant-loop-q : goal.invariant-loop-q

@@ -1,8 +1,6 @@
 -- `kernel::inner::kernel::output` meets its contract. Assumes nothing.
-use Rattle.sequences.proofs.Basics.{◌≡◌, refl, ap, ◌∙◌, ◌+◌, ◌-◌, ◌*◌, ◌≤◌, ◌<◌, mod-lt, mul-le-mul, arith, get_or, rules}
+use Rattle.sequences.proofs.Basics.{◌≡◌, refl, ap, ◌∙◌, ◌+◌, ◌-◌, ◌*◌, ◌≤◌, mod-lt, mul-le-mul, arith}
 use Rattle.schedule.specs.Stage.{plain, total}
-use Rattle.floats.specs.Complexes.{blank}
-use Rattle.kernel.specs.Parts.{untwiddled}
 use Rattle.kernel.proofs.Kernel.{total_next}
 use Rattle.kernel.proofs.inner.kernel.output.Goals as goal
 

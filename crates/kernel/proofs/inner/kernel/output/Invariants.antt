@@ -1,9 +1,8 @@
 -- `kernel::inner::kernel::output` meets its contract. Assumes nothing.
-use Rattle.sequences.proofs.Basics.{◌≡◌, refl, ap, ◌∙◌, ◌+◌, ◌-◌, ◌*◌, ◌≤◌, ◌<◌, mod-lt, mul-le-mul, arith, get_or, rules}
-use Rattle.schedule.specs.Stage.{plain, total}
+use Rattle.sequences.proofs.Basics.{◌≡◌, ◌-◌, ◌≤◌, ◌<◌, get_or}
+use Rattle.schedule.specs.Stage.{total}
 use Rattle.floats.specs.Complexes.{blank}
 use Rattle.kernel.specs.Parts.{untwiddled}
-use Rattle.kernel.proofs.Kernel.{total_next}
 use Rattle.kernel.proofs.inner.kernel.output.Given as goal
 
 abbrev pub invariant-loop-q : goal.invariant-loop-q

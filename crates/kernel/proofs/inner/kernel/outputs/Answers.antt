@@ -1,5 +1,4 @@
 -- `kernel::inner::kernel::outputs` meets its contract. Assumes nothing.
-use Rattle.sequences.proofs.Basics.{◌-◌, rules}
 use Rattle.kernel.proofs.Kernel.{eight_listed}
 use Rattle.kernel.proofs.inner.kernel.outputs.Goals as goal
 

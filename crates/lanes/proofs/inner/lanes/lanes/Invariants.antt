@@ -1,12 +1,11 @@
 -- `lanes::inner::lanes::lanes` meets its contract. Assumes nothing.
-use Rattle.sequences.proofs.Basics.{◌-◌, ◌≤◌, ◌<◌, arith, ⊎_elim, rules}
-use Rattle.radices.specs.Lists.{is_radix}
+use Rattle.sequences.proofs.Basics.{◌-◌, ◌≤◌}
 use Rattle.lanes.specs.Parts.{Fetched}
-use Rattle.lanes.proofs.Arms.{later_other, fetched_at, lane_asks, Kept, kept_none, kept_all, low_arm, high_arm}
+use Rattle.lanes.proofs.Arms.{Kept}
 use Rattle.lanes.proofs.inner.lanes.lanes.Given as goal
 
 abbrev pub invariant-loop-j : goal.invariant-loop-j
-invariant-loop-j l = (l.j ≤ l.initial.rb) × Kept (λ lent. Fetched l.initial.ra l.initial.rb l.initial.ib lent l.tw) l.initial.ra l.j l.initial.ia l.initial.ib l.src l.ra l.ia l.rb l.ib
+invariant-loop-j l = (l.j ≤ l.len) × Kept (λ lent. Fetched l.i l.len l.r lent l.tw) l.i l.j l.m l.r l.src l.ra l.ia l.rb l.ib
 
 abbrev pub decreases-loop-j : goal.decreases-loop-j
-decreases-loop-j l = l.initial.rb - l.j
+decreases-loop-j l = l.len - l.j

@@ -1,20 +1,19 @@
 -- `lanes::inner::lanes::save` meets its contract. Assumes nothing.
-use Rattle.sequences.proofs.Basics.{◌≡◌, refl, ◌∙◌, ◌+◌, ◌-◌, ◌%◌, ◌≤◌, arith, get_or, rules}
+use Rattle.sequences.proofs.Basics.{◌≡◌, ◌+◌, ◌-◌, ◌%◌, ◌≤◌, get_or}
 use Rattle.schedule.specs.Parts.{Every}
 use Rattle.floats.specs.Complexes.{blank}
 use Rattle.kernel.specs.Parts.{kernel_of}
 use Rattle.lanes.specs.Parts.{Taken}
-use Rattle.lanes.proofs.Writes.{every_none, every_step, every_end, saved_both}
 use Rattle.lanes.proofs.inner.lanes.save.Given as goal
 
 abbrev pub invariant-loop-p : goal.invariant-loop-p
-invariant-loop-p l = (l.p ≤ l.initial.im + 1) × (l.p % 2 ≡ 0) × Taken (Every 0 l.p) (kernel_of l.initial.im (λ n. get_or l.c n blank)) l.initial.re l.j l.r l.re l.im
+invariant-loop-p l = (l.p ≤ l.r + 1) × (l.p % 2 ≡ 0) × Taken (Every 0 l.p) (kernel_of l.r (λ n. get_or l.c n blank)) l.j l.initial.re l.initial.im l.re l.im
 
 abbrev pub decreases-loop-p : goal.decreases-loop-p
-decreases-loop-p l = l.initial.im + 1 - l.p
+decreases-loop-p l = l.r + 1 - l.p
 
 abbrev pub invariant-loop-q : goal.invariant-loop-q
-invariant-loop-q l = (l.q ≤ l.initial.re + 1) × (l.q % 2 ≡ 1) × Taken (Every 1 l.q) (kernel_of l.initial.re (λ n. get_or l.c n blank)) l.p l.j l.r l.re l.im
+invariant-loop-q l = (l.q ≤ l.r + 1) × (l.q % 2 ≡ 1) × Taken (Every 1 l.q) (kernel_of l.r (λ n. get_or l.c n blank)) l.j l.initial.re l.initial.im l.re l.im
 
 abbrev pub decreases-loop-q : goal.decreases-loop-q
-decreases-loop-q l = l.initial.re + 1 - l.q
+decreases-loop-q l = l.r + 1 - l.q

@@ -1,5 +1,5 @@
 -- `with_level` adds the word for no power, or the tenths behind their sign. Assumes nothing.
-use Rattle.sequences.proofs.Basics.{lit≤, eq-eqb, ne_eqb, lt-ltb, le-ltb, rules}
+use Rattle.sequences.proofs.Basics.{lit≤, eq-eqb, ne_eqb, lt-ltb, rules}
 use Rattle.text.proofs.Growing.{said}
 use Rattle.listen_text.specs.Lines.{level_text}
 use Rattle.listen_text.proofs.inner.lines.with_level.Goals as goal

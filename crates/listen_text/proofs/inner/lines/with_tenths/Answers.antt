@@ -1,5 +1,5 @@
 -- `with_tenths` adds blanks, the sign, the whole decibels, a point and the tenth. Assumes nothing.
-use Rattle.sequences.proofs.Basics.{refl, arith, rules}
+use Rattle.sequences.proofs.Basics.{refl, arith}
 use Rattle.text.proofs.Growing.{then, said}
 use Rattle.listen_text.specs.Lines.{tenths_text}
 use Rattle.listen_text.proofs.inner.lines.with_tenths.Goals as goal

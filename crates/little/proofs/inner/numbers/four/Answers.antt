@@ -11,7 +11,8 @@ overflow_add-result c = omega (arith, c.two.ensures.small, c.two-2.ensures.small
 
 pub returns : goal.returns
 unfolding number_at
-returns c = let a = c.args in let bs = a.bytes.now in let third : get_or bs (a.i + 1 + 1) 0 ≡ get_or bs (a.i + 2) 0 = ap (λ (k : ℕ). get_or bs k 0) (omega arith) in
+returns c = let a = c.args in let bs = a.bytes.now in let third : get_or bs (a.i + 1 + 1) 0 ≡ get_or bs (a.i + 2) 0 = ap (λ (k : ℕ). get_or bs k 0) (omega
+    arith) in
     let last : get_or bs (a.i + 1 + 1 + 1) 0 ≡ get_or bs (a.i + 2 + 1) 0 = ap (λ (k : ℕ). get_or bs k 0) (omega arith) in
     record {
       answer = omega (arith, c.two.ensures.answer, c.two-2.ensures.answer, third, last);

@@ -1,5 +1,4 @@
 -- `mixing::inner::pairs::fft_far` meets its contract. Assumes nothing.
-use Rattle.sequences.proofs.Basics.{rules}
 use Rattle.mixing.proofs.inner.pairs.fft_far.Goals as goal
 
 pub returns : goal.returns

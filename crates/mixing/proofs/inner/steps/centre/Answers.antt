@@ -1,5 +1,5 @@
 -- `mixing::inner::steps::centre` meets its contract. Assumes nothing.
-use Rattle.sequences.proofs.Basics.{sym, ◌∙◌, rules}
+use Rattle.sequences.proofs.Basics.{sym, ◌∙◌}
 use Rattle.floats.proofs.Signs.{conjugate_twice}
 use Rattle.mixing.proofs.inner.steps.centre.Goals as goal
 

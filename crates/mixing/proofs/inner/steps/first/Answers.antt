@@ -1,5 +1,4 @@
 -- `mixing::inner::steps::first` meets its contract. Assumes nothing.
-use Rattle.sequences.proofs.Basics.{rules}
 use Rattle.mixing.proofs.inner.steps.first.Goals as goal
 
 pub returns-then-forward : goal.returns-then-forward

@@ -1,5 +1,5 @@
 -- `packing::inner::places::place` meets its contract. Assumes nothing.
-use Rattle.sequences.proofs.Basics.{sym, div-mul-le_self, mod-lt, arith, rules}
+use Rattle.sequences.proofs.Basics.{sym, div-mul-le_self, mod-lt, arith}
 use Rattle.packing.proofs.Lanes.{small}
 use Rattle.packing.proofs.Places.{lane_place, lone_place}
 use Rattle.packing.proofs.inner.places.place.Goals as goal

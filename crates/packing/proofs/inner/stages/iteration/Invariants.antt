@@ -1,9 +1,6 @@
 -- `packing::inner::stages::iteration` meets its contract. Assumes nothing.
-use Rattle.sequences.proofs.Basics.{◌∙◌, ◌≡◌, ap, refl, ◌*◌, ◌+◌, ◌-◌, ◌≤◌, suc, arith, rules}
-use Rattle.turn.specs.Turns.{turn_at, words_of}
+use Rattle.sequences.proofs.Basics.{◌≡◌, ◌*◌, ◌+◌, ◌-◌, ◌≤◌}
 use Rattle.packing.specs.Parts.{Turned}
-use Rattle.schedule.proofs.Fill.{wrote_none}
-use Rattle.packing.proofs.Stage.{index_within, turned_next}
 use Rattle.packing.proofs.inner.stages.iteration.Given as goal
 
 abbrev pub invariant-loop-k : goal.invariant-loop-k

@@ -1,10 +1,9 @@
 -- `packing::inner::stages::stage` meets its contract. Assumes nothing.
-use Rattle.sequences.proofs.Basics.{◌≡◌, refl, ◌∙◌, ◌-◌, ◌≤◌, div-mul-le_self, arith, length, rules}
+use Rattle.sequences.proofs.Basics.{◌≡◌, refl, ◌∙◌, ◌-◌, div-mul-le_self, arith}
 use lib.Ieee.{nan}
-use Rattle.packing.specs.Twiddles.{twiddle}
 use Rattle.turn.proofs.Index.{housed_pos}
 use Rattle.packing.proofs.Circle.{housed_small}
-use Rattle.packing.proofs.Fill.{Placed, all_placed}
+use Rattle.packing.proofs.Fill.{all_placed}
 use Rattle.packing.proofs.Stage.{turn_small, lane_turnable, stage_next}
 use Rattle.packing.proofs.inner.stages.stage.Goals as goal
 
@@ -33,7 +32,11 @@ pub overflow_sub-r : goal.overflow_sub-r
 overflow_sub-r c = omega (arith, c.requires.1.two)
 
 pub iteration-requires : goal.iteration-requires
-iteration-requires c = let l = c.loop-i in (c.requires.0, rw l.invariant.1 (lane_turnable _ _ _ _ _ c.requires.1 l.i c.loop-i-test.true _ (c.lane_of-l.ensures _ refl)))
+iteration-requires c = let l = c.loop-i in (
+  c.requires.0,
+  rw l.invariant.1 (lane_turnable _ _ _ _ _ c.requires.1 l.i c.loop-i-test.true _
+      (c.lane_of-l.ensures _ refl)),
+)
 
 pub loop-i-preserved : goal.loop-i-preserved
 loop-i-preserved c = let l = c.loop-i in let next = stage_next _ _ _ _ _ c.requires.1 l.i c.loop-i-test.true _ (c.lane_of-l.ensures _ refl)

@@ -1,16 +1,13 @@
 -- `packing::inner::stages::stages` meets its contract. Assumes nothing.
-use Rattle.sequences.proofs.Basics.{◌≡◌, refl, ◌-◌, ◌*◌, ◌<◌, ◌≤◌, arith, length, take, rules}
+use Rattle.sequences.proofs.Basics.{◌≡◌, ◌-◌, ◌*◌, ◌<◌, ◌≤◌, length, take}
 use Rattle.counts.specs.Counts.{twiddle_start}
-use Rattle.counts.proofs.Counts.{start_few}
-use Rattle.plan.proofs.Bounds.{plan_order, plan_long}
 use Rattle.schedule.specs.Plans.{in_use}
 use Rattle.packing.specs.Twiddles.{stages_words}
-use Rattle.packing.proofs.Stages.{stages_none, stage_shape, part_bounds, part_room, stages_next, stages_done}
 use Rattle.packing.proofs.inner.stages.stages.Given as goal
 
 abbrev pub invariant-loop-j : goal.invariant-loop-j
-invariant-loop-j l = (1 ≤ l.j) × (0 < l.initial.out → l.j ≤ l.initial.out) × (length l.out ≡ length l.plan)
-    × (take (2 * twiddle_start l.count.half l.count.radices l.j) l.out ≡ stages_words l.count.half (in_use l.count) l.width l.j)
+invariant-loop-j l = (1 ≤ l.j) × (0 < l.count → l.j ≤ l.count) × (length l.out ≡ length l.initial.out)
+    × (take (2 * twiddle_start l.plan.half l.plan.radices l.j) l.out ≡ stages_words l.plan.half (in_use l.plan) l.width l.j)
 
 abbrev pub decreases-loop-j : goal.decreases-loop-j
-decreases-loop-j l = l.initial.out - l.j
+decreases-loop-j l = l.count - l.j

@@ -27,4 +27,8 @@ loop-i-preserved c = let l = c.loop-i in (
 )
 
 pub returns : goal.returns
-returns c = let l = c.loop-i in bytes_all c.args.bytes.now c.args.from c.args.xs.now c.requires.0 l.i l.bytes (omega (arith, l.invariant.0, c.loop-i-test.false)) l.invariant.2
+returns c = let l = c.loop-i in bytes_all c.args.bytes.now c.args.from c.args.xs.now c.requires.0 l.i l.bytes (omega (
+  arith,
+  l.invariant.0,
+  c.loop-i-test.false,
+)) l.invariant.2

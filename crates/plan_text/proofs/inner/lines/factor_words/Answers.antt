@@ -1,5 +1,5 @@
 -- `factor_words` adds a dash for no radices, and else the radices. Assumes nothing.
-use Rattle.sequences.proofs.Basics.{sym, ap, ℕ, arith, lit≤, take, rules}
+use Rattle.sequences.proofs.Basics.{sym, ap, ℕ, arith, lit≤, take}
 use Rattle.text.specs.Lines.{spaced}
 use Rattle.text.proofs.Growing.{said}
 use Rattle.plan_text.specs.Report.{factor_words}

@@ -1,5 +1,5 @@
 -- `number_line` adds a name, a number and the line end. Assumes nothing.
-use Rattle.sequences.proofs.Basics.{refl, arith, rules}
+use Rattle.sequences.proofs.Basics.{refl, arith}
 use Rattle.text.proofs.Growing.{then, said}
 use Rattle.plan_text.proofs.inner.lines.number_line.Goals as goal
 

@@ -1,5 +1,5 @@
 -- `refusal_line` adds the name, the number, the place and the line end; they fit. Assumes nothing.
-use Rattle.sequences.proofs.Basics.{ap, ◌∙◌, ℕ, arith, List, [], ◌∷◌, ◌++◌, lit≤, rules}
+use Rattle.sequences.proofs.Basics.{ap, ◌∙◌, ℕ, List, [], ◌∷◌, ◌++◌, lit≤}
 use Rattle.refusal.specs.Refusal.{number_of}
 use Rattle.little.specs.Numbers.{ascii}
 use Rattle.text.specs.Lines.{decimal, line}

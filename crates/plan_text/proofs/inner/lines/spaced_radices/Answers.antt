@@ -1,7 +1,6 @@
 -- `spaced_radices` adds the radices in turn. The invariant: those passed are added. Assumes nothing.
-use Rattle.sequences.proofs.Basics.{◌≡◌, refl, ap, ℕ, ◌≤◌, ◌*◌, ◌-◌, arith, map, take, rules}
+use Rattle.sequences.proofs.Basics.{◌≡◌, refl, ap, ℕ, arith, map, take, rules}
 use Rattle.text.specs.Lines.{decimal, spaced}
-use Rattle.text.specs.Growing.{Adds}
 use Rattle.text.proofs.Growing.{then, said, spaced_next}
 use Rattle.plan_text.proofs.inner.lines.spaced_radices.Goals as goal
 
@@ -12,7 +11,11 @@ pub with_radix-text-requires : goal.with_radix-text-requires
 with_radix-text-requires c = omega arith
 
 pub loop-i-preserved : goal.loop-i-preserved
-loop-i-preserved c = let l = c.loop-i in let rs = c.args.radices in (search rules, said (spaced_next rs l.i (search rules)) (omega arith) (then l.invariant.1 c.with_radix-text.ensures))
+loop-i-preserved c = let l = c.loop-i in let rs = c.args.radices in (
+  search rules,
+  said (spaced_next rs l.i (search rules)) (omega arith) (then
+      l.invariant.1 c.with_radix-text.ensures),
+)
 
 pub returns : goal.returns
 returns c = let l = c.loop-i in let a = c.args in let e : l.i ≡ a.count = omega arith in

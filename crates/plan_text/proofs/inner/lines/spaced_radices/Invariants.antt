@@ -1,8 +1,7 @@
 -- `spaced_radices` adds the radices in turn. The invariant: those passed are added. Assumes nothing.
-use Rattle.sequences.proofs.Basics.{◌≡◌, refl, ap, ℕ, ◌≤◌, ◌*◌, ◌-◌, arith, map, take, rules}
+use Rattle.sequences.proofs.Basics.{◌≤◌, ◌*◌, ◌-◌, map, take}
 use Rattle.text.specs.Lines.{decimal, spaced}
 use Rattle.text.specs.Growing.{Adds}
-use Rattle.text.proofs.Growing.{then, said, spaced_next}
 use Rattle.plan_text.proofs.inner.lines.spaced_radices.Given as goal
 
 abbrev pub invariant-loop-i : goal.invariant-loop-i

@@ -1,5 +1,5 @@
 -- `power::inner::check::lent_bins` meets its contract. Assumes nothing.
-use Rattle.sequences.proofs.Basics.{refl, rules}
+use Rattle.sequences.proofs.Basics.{refl}
 use lib.Ieee.{of_bits}
 use Rattle.refusal.proofs.Rows.{deciding}
 use Rattle.power.specs.Power.{power_verdict}

@@ -1,5 +1,5 @@
 -- `power::inner::sum::sum` meets its contract. Assumes nothing.
-use Rattle.sequences.proofs.Basics.{◌≡◌, refl, ap, ◌∙◌, ◌-◌, ◌≤◌, arith, rules}
+use Rattle.sequences.proofs.Basics.{◌≡◌, refl, ap, ◌∙◌, arith}
 use Rattle.power.specs.Power.{power_from}
 use Rattle.power.proofs.Sums.{power_next}
 use Rattle.power.proofs.inner.sum.sum.Goals as goal

@@ -1,7 +1,6 @@
 -- `power::inner::sum::sum` meets its contract. Assumes nothing.
-use Rattle.sequences.proofs.Basics.{◌≡◌, refl, ap, ◌∙◌, ◌-◌, ◌≤◌, arith, rules}
+use Rattle.sequences.proofs.Basics.{◌≡◌, ◌-◌, ◌≤◌}
 use Rattle.power.specs.Power.{power_from}
-use Rattle.power.proofs.Sums.{power_next}
 use Rattle.power.proofs.inner.sum.sum.Given as goal
 
 abbrev pub invariant-loop-k : goal.invariant-loop-k

@@ -1,7 +1,6 @@
 -- `radices::inner::lists::running_product` meets its contract. Assumes nothing.
 use Rattle.sequences.proofs.Basics.{refl, sym, ap, ◌∙◌, ℕ, ◌*◌, arith, get_or, rules}
 use Rattle.radices.proofs.Lists.{product_next, over_skip, over_here, over_none, running_at, byte_fits}
-use Rattle.radices.specs.Lists.{first_over, largest}
 use Rattle.radices.specs.Lists
 use Rattle.radices.proofs.inner.lists.running_product.Goals as goal
 
@@ -19,7 +18,8 @@ overflow_mul-next c = record {
 }
 
 pub returns-then-next-gt8192 : goal.returns-then-next-gt8192
-returns-then-next-gt8192 c = let l = c.loop-i in let xs = c.args.list.now in running_at xs l.i l.product (over_here xs l.product l.i (search rules) c.if-next-gt8192.true l.invariant.1.1.1) l.invariant.1.1.0
+returns-then-next-gt8192 c = let l = c.loop-i in let xs = c.args.list.now in running_at xs l.i l.product (over_here xs l.product l.i (search rules)
+    c.if-next-gt8192.true l.invariant.1.1.1) l.invariant.1.1.0
 
 pub loop-i-preserved : goal.loop-i-preserved
 loop-i-preserved c = let l = c.loop-i in let xs = c.args.list.now in (
@@ -34,4 +34,5 @@ loop-i-preserved c = let l = c.loop-i in let xs = c.args.list.now in (
 )
 
 pub returns : goal.returns
-returns c = let l = c.loop-i in let xs = c.args.list.now in running_at xs l.i l.product (over_none xs l.product l.i (search rules) (search rules) l.invariant.1.1.1) l.invariant.1.1.0
+returns c = let l = c.loop-i in let xs = c.args.list.now in running_at xs l.i l.product (over_none xs l.product l.i (search rules) (search rules)
+    l.invariant.1.1.1) l.invariant.1.1.0

@@ -1,5 +1,5 @@
 -- `recorded::inner::text::lent`: the first so many of an array's bytes are so many.
-use Rattle.std.proofs.Common.{sym, rules, arith}
+use Rattle.std.proofs.Common.{sym, arith}
 use Rattle.std.proofs.lemmas.List.{length-take-le}
 use Rattle.recorded.proofs.inner.text.lent.Goals as goal
 

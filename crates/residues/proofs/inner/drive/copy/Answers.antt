@@ -19,4 +19,8 @@ pub shape_of-dst : goal.shape_of-dst
 shape_of-dst c = c.loop-i.invariant.0 ∙ sym c.requires
 
 pub returns : goal.returns
-returns c = let a = c.args in let l = c.loop-i in ext_get_or 0 l.dst a.src.now l.invariant.0 (λ q lq. l.invariant.1.1 q (omega (arith, c.loop-i-test.false, l.invariant.0)))
+returns c = let a = c.args in let l = c.loop-i in ext_get_or 0 l.dst a.src.now l.invariant.0 (λ q lq. l.invariant.1.1 q (omega (
+  arith,
+  c.loop-i-test.false,
+  l.invariant.0,
+)))

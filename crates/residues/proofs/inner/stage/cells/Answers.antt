@@ -15,7 +15,11 @@ pub overflow_cast-x : goal.overflow_cast-x
 overflow_cast-x c = omega (arith, c.type_inv.src c.args.i)
 
 pub loop-q-init : goal.loop-q-init
-loop-q-init c = let a = c.args in let h = c.requires in let first = read_first a.m a.v a.apart a.src.now a.i (h.cells a.i (omega (arith, h.reads 0 (omega (arith, h.some))))) in
+loop-q-init c = let a = c.args in let h = c.requires in let first = read_first a.m a.v a.apart a.src.now a.i (h.cells a.i (omega (
+  arith,
+  h.reads 0 (omega
+      (arith, h.some)),
+))) in
     (omega arith, omega arith, refl, power_one a.v a.m h.power, λ k l. let e : k ≡ 0 = omega arith in rw e first)
 
 pub overflow_mul-c : goal.overflow_mul-c

@@ -8,7 +8,13 @@ pub overflow_mul-width : goal.overflow_mul-width
 overflow_mul-width c = omega (arith, width_few c.requires.0)
 
 pub loop-i-init : goal.loop-i-init
-loop-i-init c = let a = c.args in let h = c.requires.0 in (omega arith, refl, standing_first a.m a.step a.s a.r h.blocks.stride h.modulus.two, λ i p l. absurd (omega arith))
+loop-i-init c = let a = c.args in let h = c.requires.0 in (
+  omega arith,
+  refl,
+  standing_first a.m a.step a.s a.r h.blocks.stride h.modulus.two,
+  λ i p l.
+      absurd (omega arith),
+)
 
 pub overflow_add-block : goal.overflow_add-block
 overflow_add-block c = omega (arith, block_few c.requires.0 c.loop-i.invariant.2 c.loop-i-test.true)
@@ -37,7 +43,10 @@ loop-i-preserved-then-k-s c = let l = c.loop-i in let o = c.one in let a = c.arg
 )
 
 pub overflow_mul-v : goal.overflow_mul-v
-overflow_mul-v c = let l = c.loop-i in let h = c.requires.0.modulus in record { fits = product_fits _ _ c.args.m (below_mod l.v _ c.args.m l.invariant.2.power (omega (arith, h.two))) c.requires.1 h.small }
+overflow_mul-v c = let l = c.loop-i in let h = c.requires.0.modulus in record {
+  fits = product_fits _ _ c.args.m (below_mod l.v _ c.args.m
+      l.invariant.2.power (omega (arith, h.two))) c.requires.1 h.small;
+}
 
 pub nonzero_rem-v : goal.nonzero_rem-v
 nonzero_rem-v c = omega (arith, c.requires.0.modulus.two)

@@ -17,7 +17,16 @@ pub nonzero_div-apart-2 : goal.nonzero_div-apart-2
 nonzero_div-apart-2 c = rw c.stride-s.ensures (found_stride c.args.plan c.requires.0.planned c.args.j c.requires.1)
 
 pub powers-turns-requires : goal.powers-turns-requires
-powers-turns-requires c = let h = c.requires.0.modulus in (h.two, (h.small, below_mod c.power-root.result _ c.args.m c.power-root.ensures (omega (arith, h.two))))
+powers-turns-requires c = let h = c.requires.0.modulus in (
+  h.two,
+  (
+    h.small,
+    below_mod c.power-root.result _ c.args.m c.power-root.ensures (omega (
+      arith,
+      h.two,
+    )),
+  ),
+)
 
 pub iterations-requires : goal.iterations-requires
 iterations-requires c = let two : 0 < c.args.m = omega (arith, c.requires.0.modulus.two) in

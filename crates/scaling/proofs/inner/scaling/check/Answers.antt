@@ -1,5 +1,4 @@
 -- `scaling::inner::scaling::check` meets its contract. Assumes nothing.
-use Rattle.sequences.proofs.Basics.{rules}
 use Rattle.refusal.proofs.Rows.{deciding}
 use Rattle.radices.proofs.Products.{running_early}
 use Rattle.scaling.proofs.inner.scaling.check.Goals as goal

@@ -1,6 +1,5 @@
 -- `scaling::inner::scaling::gain` meets its contract. Assumes nothing.
-use Rattle.sequences.proofs.Basics.{◌≡◌, sym, ◌-◌, ◌*◌, ◌^◌, ◌<◌, ◌≤◌, one-mul, arith, rules}
-use Rattle.scaling.specs.Scaling.{gain as gainOf, gain_from}
+use Rattle.sequences.proofs.Basics.{sym, one-mul, arith}
 use Rattle.scaling.proofs.Scaling.{twice_more, gain_start, gain_skip, gain_stop}
 use Rattle.scaling.proofs.inner.scaling.gain.Goals as goal
 

@@ -1,7 +1,6 @@
 -- `scaling::inner::scaling::gain` meets its contract. Assumes nothing.
-use Rattle.sequences.proofs.Basics.{◌≡◌, sym, ◌-◌, ◌*◌, ◌^◌, ◌<◌, ◌≤◌, one-mul, arith, rules}
+use Rattle.sequences.proofs.Basics.{◌≡◌, ◌-◌, ◌*◌, ◌^◌, ◌<◌, ◌≤◌}
 use Rattle.scaling.specs.Scaling.{gain as gainOf, gain_from}
-use Rattle.scaling.proofs.Scaling.{twice_more, gain_start, gain_skip, gain_stop}
 use Rattle.scaling.proofs.inner.scaling.gain.Given as goal
 
 abbrev pub invariant-loop-reached : goal.invariant-loop-reached

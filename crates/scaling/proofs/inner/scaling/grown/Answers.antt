@@ -1,5 +1,5 @@
 -- `scaling::inner::scaling::grown` meets its contract. Assumes nothing.
-use Rattle.sequences.proofs.Basics.{arith, rules}
+use Rattle.sequences.proofs.Basics.{arith}
 use Rattle.scaling.proofs.Scaling.{grown_front, grown_room, grown_exact, grown_pushed, gained_one, gained_two}
 use Rattle.scaling.proofs.inner.scaling.grown.Goals as goal
 

@@ -1,6 +1,5 @@
 -- `scaling::inner::scaling::power` meets its contract. Assumes nothing.
-use Rattle.sequences.proofs.Basics.{◌≡◌, refl, ap, ◌∙◌, ℕ, ◌-◌, ◌*◌, ◌^◌, ◌≤◌, arith, rules}
-use Rattle.scaling.proofs.Scaling.{power_small, power_next}
+use Rattle.sequences.proofs.Basics.{◌≡◌, ◌-◌, ◌^◌, ◌≤◌}
 use Rattle.scaling.proofs.inner.scaling.power.Given as goal
 
 abbrev pub invariant-loop-i : goal.invariant-loop-i

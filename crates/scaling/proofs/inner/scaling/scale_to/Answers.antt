@@ -1,5 +1,5 @@
 -- `scaling::inner::scaling::scale_to` meets its contract. Assumes nothing.
-use Rattle.sequences.proofs.Basics.{sym, ◌∙◌, rules}
+use Rattle.sequences.proofs.Basics.{sym, ◌∙◌}
 use Rattle.scaling.proofs.Scaling.{scale_in, scale_out}
 use Rattle.scaling.proofs.inner.scaling.scale_to.Goals as goal
 

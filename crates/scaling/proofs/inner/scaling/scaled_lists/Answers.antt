@@ -1,5 +1,4 @@
 -- `scaling::inner::scaling::scaled_lists` meets its contract. Assumes nothing.
-use Rattle.sequences.proofs.Basics.{rules}
 use Rattle.scaling.proofs.Scaling.{in_bounds, in_few, in_fits, in_power, out_power, out_fits, scale_large, scale_accepted}
 use Rattle.scaling.proofs.inner.scaling.scaled_lists.Goals as goal
 

@@ -1,5 +1,5 @@
 -- `scratch::inner::restoring::conjugate_front` meets its contract. Assumes nothing.
-use Rattle.sequences.proofs.Basics.{sym, ap, ◌*◌, List, ◌++◌, drop, length-take-le, rules}
+use Rattle.sequences.proofs.Basics.{sym, ap, ◌*◌, List, ◌++◌, drop, length-take-le}
 use lib.Ieee.{Float}
 use Rattle.scratch.proofs.inner.restoring.conjugate_front.Goals as goal
 

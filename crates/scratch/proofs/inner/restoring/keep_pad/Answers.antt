@@ -1,5 +1,5 @@
 -- `scratch::inner::restoring::keep_pad` meets its contract. Assumes nothing.
-use Rattle.sequences.proofs.Basics.{sym, ◌∙◌, length-take-le, rules}
+use Rattle.sequences.proofs.Basics.{sym, ◌∙◌, length-take-le}
 use Rattle.scratch.specs.Scratch.{data_of}
 use Rattle.scratch.proofs.Scratch.{pad_pasted, parted}
 use Rattle.scratch.proofs.inner.restoring.keep_pad.Goals as goal

@@ -13,4 +13,8 @@ pub overflow_sub-result : goal.overflow_sub-result
 overflow_sub-result c = omega (arith, c.if-words-lt2.false)
 
 pub returns : goal.returns
-returns c = let w = c.args.words in let h = c.args.h in same_eqb (w / 2 - 1) h w (2 * (h + 1)) (λ e. omega (arith, c.if-words-ne0.false, c.if-words-lt2.false)) (λ e. omega arith)
+returns c = let w = c.args.words in let h = c.args.h in same_eqb (w / 2 - 1) h w (2 * (h + 1)) (λ e. omega (
+  arith,
+  c.if-words-ne0.false,
+  c.if-words-lt2.false,
+)) (λ e. omega arith)

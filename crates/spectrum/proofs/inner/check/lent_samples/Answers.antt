@@ -1,5 +1,5 @@
 -- `spectrum::inner::check::lent_samples` meets its contract. Assumes nothing.
-use Rattle.sequences.proofs.Basics.{refl, rules}
+use Rattle.sequences.proofs.Basics.{refl}
 use lib.Ieee.{of_bits}
 use Rattle.spectrum.proofs.inner.check.lent_samples.Goals as goal
 

@@ -1,5 +1,5 @@
 -- `spectrum::inner::check::numbers` meets its contract. Assumes nothing.
-use Rattle.sequences.proofs.Basics.{refl, ◌+◌, ◌<◌, ◌≤◌, arith, ◌++◌, length, length-append, rules}
+use Rattle.sequences.proofs.Basics.{refl, ◌+◌, ◌<◌, ◌≤◌, arith, ◌++◌, length, length-append}
 use lib.Ieee.{of_bits}
 use Rattle.refusal.proofs.Rows.{deciding}
 use Rattle.spectrum.specs.Calls.{number_verdict}
@@ -19,7 +19,8 @@ returns-then-wide-stage c = λ k e.
 pub returns-then-last-end : goal.returns-then-last-end
 unfolding of_bits number_verdict
 returns-then-last-end c = λ k e.
-    let a = c.args in let at = in_ends a.stage.now a.end.now _ (c.first_unfit-wide.ensures 0 refl) c.if-wide-stage.false _ (c.first_unfit-last.ensures 0 refl) in
+    let a = c.args in let at = in_ends a.stage.now a.end.now _ (c.first_unfit-wide.ensures 0 refl) c.if-wide-stage.false _ (c.first_unfit-last.ensures 0
+    refl) in
     let inside : length a.stage.now + c.first_unfit-last.result < length (a.stage.now ++ a.end.now) =
     omega (arith, c.if-last-end.true, length-append a.stage.now a.end.now) in
     search (deciding, c.first_unfit-large.ensures k e)
@@ -27,7 +28,8 @@ returns-then-last-end c = λ k e.
 pub returns : goal.returns
 unfolding of_bits number_verdict
 returns c = λ k e.
-    let a = c.args in let at = in_ends a.stage.now a.end.now _ (c.first_unfit-wide.ensures 0 refl) c.if-wide-stage.false _ (c.first_unfit-last.ensures 0 refl) in
+    let a = c.args in let at = in_ends a.stage.now a.end.now _ (c.first_unfit-wide.ensures 0 refl) c.if-wide-stage.false _ (c.first_unfit-last.ensures 0
+    refl) in
     let past : length (a.stage.now ++ a.end.now) ≤ length a.stage.now + c.first_unfit-last.result =
     omega (arith, c.if-last-end.false, length-append a.stage.now a.end.now) in
     search (deciding, c.first_unfit-large.ensures k e)

@@ -1,5 +1,5 @@
 -- `stage::inner::check::lent` meets its contract. Assumes nothing.
-use Rattle.sequences.proofs.Basics.{sym, ◌∙◌, length, rules}
+use Rattle.sequences.proofs.Basics.{sym, ◌∙◌, length}
 use Rattle.refusal.proofs.Rows.{refused_on, accepted_on}
 use Rattle.stage.specs.Calls.{size_rows, number_rows, size_verdict, number_verdict, stage_verdict}
 use Rattle.stage.proofs.inner.check.lent.Goals as goal

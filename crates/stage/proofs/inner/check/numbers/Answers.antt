@@ -1,5 +1,5 @@
 -- `stage::inner::check::numbers` meets its contract. Assumes nothing.
-use Rattle.sequences.proofs.Basics.{refl, rules}
+use Rattle.sequences.proofs.Basics.{refl}
 use lib.Ieee.{of_bits}
 use Rattle.refusal.proofs.Rows.{deciding}
 use Rattle.stage.specs.Calls.{number_verdict}

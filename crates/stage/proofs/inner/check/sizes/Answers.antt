@@ -1,5 +1,5 @@
 -- `stage::inner::check::sizes` meets its contract. Assumes nothing.
-use Rattle.sequences.proofs.Basics.{◌≡◌, arith, true, rules}
+use Rattle.sequences.proofs.Basics.{◌≡◌, arith, true}
 use Rattle.refusal.proofs.Rows.{deciding, accepted}
 use Rattle.plan.specs.Record.{is_planned}
 use Rattle.plan.proofs.Bounds.{plan_half}

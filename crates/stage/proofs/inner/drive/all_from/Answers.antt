@@ -1,5 +1,5 @@
 -- `stage::inner::drive::all_from` meets its contract. Assumes nothing.
-use Rattle.sequences.proofs.Basics.{◌≡◌, ap, ◌∙◌, arith, ⊎_elim, length, rules}
+use Rattle.sequences.proofs.Basics.{◌≡◌, ap, ◌∙◌, arith, length}
 use lib.Ieee.{Float}
 use Rattle.sequences.proofs.Pasted.{whole_pasted}
 use Rattle.counts.proofs.Counts.{start_none}
@@ -7,6 +7,7 @@ use Rattle.schedule.specs.Buffers.{Two}
 use Rattle.stage.specs.Runs.{stage_in, run_of}
 use Rattle.stage.proofs.Runs.{drivable_as, steppable, gone_none}
 use Rattle.stage.proofs.inner.drive.all_from.Goals as goal
+use Rattle.stage.proofs.inner.drive.all_from.Goals.{then-plan-gt0, else-plan-gt0}
 
 pub one-requires : goal.one-requires
 one-requires c = steppable c.requires.0 0 (omega (arith, c.if-plan-gt0.true)) _ _ _ c.requires.0.long c.requires.0.wide
@@ -14,23 +15,29 @@ one-requires c = steppable c.requires.0 0 (omega (arith, c.if-plan-gt0.true)) _ 
 
 pub later-requires : goal.later-requires
 later-requires c = (
-  drivable_as c.requires.0 c.requires.1 c.one.kept.1.1.1.1.0,
+  drivable_as c.requires.0 c.requires.1 c.one.auto.dst,
   omega (arith, c.if-plan-gt0.true),
 )
 
 pub shape_of-data : goal.shape_of-data
-shape_of-data c = ⊎_elim (λ e. ap length e.12 ∙ e.7.kept.1.1.0) (λ e. ap length e.5 ∙ e.2.kept.1.0) c.if-plan-gt0.branch
+shape_of-data c = elim c.if-plan-gt0.branch [
+  | then-plan-gt0 w ↦ ap length w.data-is ∙ w.later.auto.«data»
+  | else-plan-gt0 w ↦ ap length w.data-is ∙ w.paste.auto.dst
+]
 
 pub shape_of-scratch : goal.shape_of-scratch
-shape_of-scratch c = ⊎_elim (λ e. ap length e.13 ∙ e.7.kept.1.1.1.0 ∙ e.2.kept.1.1.1.1.0) (λ e. ap length e.6) c.if-plan-gt0.branch
+shape_of-scratch c = elim c.if-plan-gt0.branch [
+  | then-plan-gt0 w ↦ ap length w.scratch-is ∙ w.later.auto.scratch ∙ w.one.auto.dst
+  | else-plan-gt0 w ↦ ap length w.scratch-is
+]
 
 pub returns : goal.returns
 returns c = let a = c.args in let b : Two Float = (a.input.now, a.scratch.now) in let f = stage_in a.plan a.width a.twiddles.now in
     let left : (c.if-plan-gt0.«data» ≡ (run_of a.plan a.width a.twiddles.now b).0)
     × (c.if-plan-gt0.scratch ≡ (run_of a.plan a.width a.twiddles.now b).1) =
-    ⊎_elim (λ e.
-    let g = e.7.ensures a.input.now a.scratch.now e.2.ensures in
-    (e.12 ∙ g.0, e.13 ∙ g.1)) (λ e.
-    let g = gone_none f a.plan.count (omega (arith, e.0.left)) b in
-    (e.5 ∙ e.2.ensures ∙ whole_pasted _ _ c.requires.1 ∙ g.0, e.6 ∙ g.1)) c.if-plan-gt0.branch in
-    (left.0, (left.1, c.result_in.ensures))
+    elim c.if-plan-gt0.branch [
+      | then-plan-gt0 w ↦ let g = w.later.ensures a.input.now a.scratch.now w.one.ensures in (w.data-is ∙ g.0, w.scratch-is ∙ g.1)
+      | else-plan-gt0 w ↦ let g = gone_none f a.plan.count (omega (arith, w.if-plan-gt0.false)) b in
+          (w.data-is ∙ w.paste.ensures ∙ whole_pasted _ _ c.requires.1 ∙ g.0, w.scratch-is ∙ g.1)
+    ] in
+    record { data_after = left.0; scratch_after = left.1; value = c.result_in.ensures }

@@ -1,5 +1,4 @@
 -- `storing::inner::storing::batch` meets its contract. Assumes nothing.
-use Rattle.sequences.proofs.Basics.{rules}
 use Rattle.storing.proofs.Batches.{even_le, even_self}
 use Rattle.storing.proofs.inner.storing.batch.Goals as goal
 

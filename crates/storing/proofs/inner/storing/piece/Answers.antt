@@ -1,5 +1,5 @@
 -- `storing::inner::storing::piece` meets its contract. Assumes nothing.
-use Rattle.sequences.proofs.Basics.{◌≡◌, arith, rules}
+use Rattle.sequences.proofs.Basics.{◌≡◌, arith}
 use Rattle.storing.proofs.Writes.{wrote_all}
 use Rattle.storing.proofs.inner.storing.piece.Goals as goal
 

@@ -1,7 +1,5 @@
 -- `storing::inner::storing::row` meets its contract. Assumes nothing.
-use Rattle.sequences.proofs.Basics.{◌≡◌, refl, ◌+◌, ◌-◌, ◌*◌, ◌≤◌, ◌<◌, arith, length, rules}
-use Rattle.lanes.specs.Parts.{lane}
-use Rattle.storing.specs.Parts.{Wrote}
+use Rattle.sequences.proofs.Basics.{◌≡◌, refl, ◌+◌, ◌-◌, ◌*◌, ◌<◌, arith, length}
 use Rattle.storing.proofs.Writes.{wrote_none, wrote_step, wrote_all}
 use Rattle.storing.proofs.inner.storing.row.Goals as goal
 
@@ -13,7 +11,7 @@ put-requires c = omega (arith, c.loop-t.invariant.1.size)
 
 pub loop-t-preserved : goal.loop-t-preserved
 loop-t-preserved c = let l = c.loop-t in let put = c.put in let room : 2 * (c.args.at + l.t) + 1 < length c.args.dst.now = omega arith in
-    (omega arith, wrote_step _ _ _ l.t l.dst put.last.0 _ room l.invariant.1 refl put.ensures)
+    (omega arith, wrote_step _ _ _ l.t l.dst _ _ room l.invariant.1 refl put.ensures)
 
 pub shape_of-dst : goal.shape_of-dst
 shape_of-dst c = c.loop-t.invariant.1.size

@@ -1,12 +1,11 @@
 -- `storing::inner::storing::row` meets its contract. Assumes nothing.
-use Rattle.sequences.proofs.Basics.{◌≡◌, refl, ◌+◌, ◌-◌, ◌*◌, ◌≤◌, ◌<◌, arith, length, rules}
+use Rattle.sequences.proofs.Basics.{◌+◌, ◌-◌, ◌≤◌}
 use Rattle.lanes.specs.Parts.{lane}
 use Rattle.storing.specs.Parts.{Wrote}
-use Rattle.storing.proofs.Writes.{wrote_none, wrote_step, wrote_all}
 use Rattle.storing.proofs.inner.storing.row.Given as goal
 
 abbrev pub invariant-loop-t : goal.invariant-loop-t
-invariant-loop-t l = (l.t ≤ l.initial.dst) × Wrote (λ u. lane l.re l.im (l.k + u)) l.n l.t l.at l.dst
+invariant-loop-t l = (l.t ≤ l.n) × Wrote (λ u. lane l.re l.im (l.k + u)) l.at l.t l.initial.dst l.dst
 
 abbrev pub decreases-loop-t : goal.decreases-loop-t
-decreases-loop-t l = l.initial.dst - l.t
+decreases-loop-t l = l.n - l.t

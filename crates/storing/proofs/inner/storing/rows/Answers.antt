@@ -1,11 +1,8 @@
 -- `storing::inner::storing::rows` meets its contract. Assumes nothing.
-use Rattle.sequences.proofs.Basics.{◌≡◌, refl, ap, ◌∙◌, ℕ, ◌+◌, ◌-◌, ◌*◌, ◌≤◌, ◌<◌, arith, length, rules}
+use Rattle.sequences.proofs.Basics.{refl, ap, ◌∙◌, ℕ, ◌+◌, ◌-◌, ◌*◌, ◌<◌, arith, length}
 use Rattle.schedule.specs.Stage.{index}
-use Rattle.schedule.proofs.Fill.{wrote_as, Rowed, rowed_none, rowed_step}
+use Rattle.schedule.proofs.Fill.{wrote_as, rowed_none, rowed_step}
 use Rattle.floats.specs.Complexes.{cell}
-use Rattle.floats.specs.declared.complex.Complex.{Complex}
-use Rattle.lanes.specs.Parts.{lane}
-use Rattle.storing.specs.Parts.{Done}
 use Rattle.storing.proofs.Writes.{wrote_from}
 use Rattle.storing.proofs.Places.{row_room}
 use Rattle.storing.proofs.inner.storing.rows.Goals as goal

@@ -1,12 +1,8 @@
 -- `storing::inner::storing::step` meets its contract. Assumes nothing.
-use Rattle.sequences.proofs.Basics.{◌+◌, ◌*◌, ◌^◌, ◌<◌, arith, rules}
+use Rattle.sequences.proofs.Basics.{arith}
 use Rattle.storing.proofs.Places.{picked, picked_size}
 use Rattle.storing.proofs.Batches.{waiting_asks, waiting_room, waiting_within, waiting_rows, waiting_next, waiting_done}
 use Rattle.storing.proofs.inner.storing.step.Goals as goal
-
--- the end of the block is no large number
-small : (c : goal.After-slice_known-1) → let a = c.args in a.at.block + a.s * a.r < 2 ^ 64
-small c = let p = c.requires in omega (arith, waiting_room p.0 p.1 p.2 p.3)
 
 pub overflow_sub-s : goal.overflow_sub-s
 overflow_sub-s c = let p = c.requires in omega (arith, waiting_asks p.0 p.1 p.2 p.3)
@@ -24,17 +20,17 @@ rows-requires c = let p = c.requires in let b = c.batch-n.ensures in let w = wai
   b.0,
   b.1,
   w.2,
-  picked_size c.args.r 128 _ _ _ c.pick-re.ensures p.4.size-ra p.4.size-rb,
-  picked_size c.args.r 128 _ _ _ c.pick-im.ensures p.4.size-ia p.4.size-ib,
+  picked_size c.args.r 128 _ _ _ c.pick-re.ensures p.4.size_ra p.4.size_rb,
+  picked_size c.args.r 128 _ _ _ c.pick-im.ensures p.4.size_ia p.4.size_ib,
 )
 
 pub onward-requires : goal.onward-requires
-onward-requires c = let p = c.requires in (waiting_within p.0 p.1 p.2 p.3 c.batch-n.ensures, small c)
+onward-requires c = let p = c.requires in (waiting_within p.0 p.1 p.2 p.3 c.batch-n.ensures, omega (arith, waiting_room p.0 p.1 p.2 p.3))
 
 pub returns : goal.returns
 returns c = let a = c.args in let p = c.requires in let b = c.batch-n.ensures in let rows = c.rows in (
   waiting_next p.0 p.1 p.2 p.3 b c.onward.ensures,
   omega (arith, b.1),
-  λ v held. waiting_done p.0 p.1 p.2 p.3 b c.pick-re.result.now c.pick-im.result.now a.dst.now rows.last.1.1.1.0
+  λ v held. waiting_done p.0 p.1 p.2 p.3 b c.pick-re.result.now c.pick-im.result.now a.dst.now rows.new.dst
       rows.ensures v (picked a.i a.len a.r v _ _ _ _ _ _ c.pick-re.ensures c.pick-im.ensures held),
 )

@@ -1,6 +1,6 @@
 -- `storing::inner::storing::store` meets its contract. Assumes nothing.
 use Rattle.sequences.proofs.Basics.{◌-◌, arith}
-use Rattle.storing.proofs.Batches.{Storing, storing_none, storing_asks, storing_next, storing_all}
+use Rattle.storing.proofs.Batches.{storing_none, storing_asks, storing_next, storing_all}
 use Rattle.storing.proofs.inner.storing.store.Goals as goal
 
 pub loop-next-init : goal.loop-next-init
@@ -13,7 +13,7 @@ pub loop-next-smaller : goal.loop-next-smaller
 loop-next-smaller c = omega (arith, c.step-next.ensures.0.fits)
 
 pub loop-next-preserved : goal.loop-next-preserved
-loop-next-preserved c = storing_next c.loop-next.invariant c.step-next.kept.1.1.1.1.0 c.step-next.ensures
+loop-next-preserved c = storing_next c.loop-next.invariant c.step-next.auto.dst c.step-next.ensures
 
 pub shape_of-dst : goal.shape_of-dst
 shape_of-dst c = c.loop-next.invariant.size

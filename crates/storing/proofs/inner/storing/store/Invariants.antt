@@ -1,10 +1,10 @@
 -- `storing::inner::storing::store` meets its contract. Assumes nothing.
-use Rattle.sequences.proofs.Basics.{◌-◌, arith}
-use Rattle.storing.proofs.Batches.{Storing, storing_none, storing_asks, storing_next, storing_all}
+use Rattle.sequences.proofs.Basics.{◌-◌}
+use Rattle.storing.proofs.Batches.{Storing}
 use Rattle.storing.proofs.inner.storing.store.Given as goal
 
 abbrev pub invariant-loop-next : goal.invariant-loop-next
-invariant-loop-next l = Storing l.initial.dst l.m l.s l.r l.even l.ra l.ia l.rb l.ib l.i l.dst l.next.at.block l.next.at.col l.next.j
+invariant-loop-next l = Storing l.even l.i l.len l.s l.r l.ra l.ia l.rb l.ib l.initial.dst l.dst l.next.at.block l.next.at.col l.next.j
 
 abbrev pub decreases-loop-next : goal.decreases-loop-next
-decreases-loop-next l = l.s - l.next.j
+decreases-loop-next l = l.len - l.next.j

@@ -1,5 +1,5 @@
 -- `with_digits` adds the digits of a number, the last one after those of its tenth. Assumes nothing.
-use Rattle.sequences.proofs.Basics.{sym, ap, ◌<◌, arith, length}
+use Rattle.sequences.proofs.Basics.{sym, ap, arith, length}
 use Rattle.text.proofs.Decimal.{decimal_small, decimal_more, decimal_longer}
 use Rattle.text.proofs.Growing.{then, said}
 use Rattle.text.proofs.inner.text.+with_digits.Goals as goal

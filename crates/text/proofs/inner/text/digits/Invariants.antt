@@ -1,7 +1,6 @@
 -- `digits` counts the digits. The invariant: those counted and those of what is left are one more than the number has. Assumes nothing.
-use Rattle.sequences.proofs.Basics.{◌≡◌, ap, ◌+◌, arith, length, rules}
+use Rattle.sequences.proofs.Basics.{◌≡◌, ◌+◌, length}
 use Rattle.text.specs.Lines.{decimal}
-use Rattle.text.proofs.Decimal.{decimal_small, decimal_longer, decimal_short}
 use Rattle.text.proofs.inner.text.digits.Given as goal
 
 abbrev pub invariant-loop-left : goal.invariant-loop-left

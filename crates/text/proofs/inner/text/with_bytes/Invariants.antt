@@ -1,8 +1,6 @@
 -- `with_bytes` adds the bytes in turn. The invariant: the text so far with the bytes that are left is the text wanted. Assumes nothing.
-use Rattle.sequences.proofs.Basics.{◌≡◌, sym, ap, ◌∙◌, ◌≤◌, ◌+◌, ◌-◌, arith, length, drop, drop_of_length-le, rules}
+use Rattle.sequences.proofs.Basics.{◌≡◌, ◌≤◌, ◌+◌, ◌-◌, length, drop}
 use Rattle.text.specs.Growing.{puts}
-use Rattle.text.specs.declared.Text.{Text}
-use Rattle.text.proofs.Growing.{puts_next}
 use Rattle.text.proofs.inner.text.with_bytes.Given as goal
 
 abbrev pub invariant-loop-i : goal.invariant-loop-i

@@ -1,5 +1,5 @@
 -- `with_indent` adds the blanks that are left of the width, or none. Assumes nothing.
-use Rattle.sequences.proofs.Basics.{◌≡◌, sym, ap, ℕ, ◌-◌, arith, length, replicate, rules}
+use Rattle.sequences.proofs.Basics.{◌≡◌, sym, ap, ℕ, ◌-◌, arith, length, replicate}
 use Rattle.text.specs.Lines.{decimal, indent}
 use Rattle.text.specs.Growing.{puts}
 use Rattle.text.proofs.Growing.{said}

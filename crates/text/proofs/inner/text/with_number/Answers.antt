@@ -1,5 +1,5 @@
 -- `with_number` adds a blank and the digits. Assumes nothing.
-use Rattle.sequences.proofs.Basics.{sym, ap, ℕ, List, ◌∷◌, append-nil, lit≤, rules}
+use Rattle.sequences.proofs.Basics.{sym, ap, ℕ, List, ◌∷◌, append-nil, lit≤}
 use Rattle.text.specs.Lines.{decimal}
 use Rattle.text.proofs.Growing.{then, said}
 use Rattle.text.proofs.inner.text.with_number.Goals as goal

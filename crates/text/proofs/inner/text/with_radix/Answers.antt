@@ -1,5 +1,5 @@
 -- `with_radix` adds a blank and at most three digits. Assumes nothing.
-use Rattle.sequences.proofs.Basics.{sym, ap, ℕ, arith, List, ◌∷◌, append-nil, rules}
+use Rattle.sequences.proofs.Basics.{sym, ap, ℕ, arith, List, ◌∷◌, append-nil}
 use Rattle.text.specs.Lines.{decimal}
 use Rattle.text.proofs.Decimal.{decimal_short}
 use Rattle.text.proofs.Growing.{then, said}

@@ -1,5 +1,5 @@
 -- `with_right` adds the blanks and the digits, at most 20 together. Assumes nothing.
-use Rattle.sequences.proofs.Basics.{refl, arith, rules}
+use Rattle.sequences.proofs.Basics.{refl, arith}
 use Rattle.text.specs.Lines.{right}
 use Rattle.text.proofs.Decimal.{decimal_short}
 use Rattle.text.proofs.Growing.{then, said}

@@ -1,8 +1,6 @@
 -- `with_signs` adds the byte so many times. The invariant: it is added as often as the loop has turned. Assumes nothing.
-use Rattle.sequences.proofs.Basics.{◌≡◌, refl, ap, ℕ, ◌≤◌, ◌-◌, arith, replicate, rules}
-use lib.ListN.{replicate-append-replicate}
+use Rattle.sequences.proofs.Basics.{◌≤◌, ◌-◌, replicate}
 use Rattle.text.specs.Growing.{Adds}
-use Rattle.text.proofs.Growing.{then, said}
 use Rattle.text.proofs.inner.text.with_signs.Given as goal
 
 abbrev pub invariant-loop-i : goal.invariant-loop-i

@@ -1,5 +1,5 @@
 -- `end_token` goes by the cases of a token; where one ends there is room for its radix. Assumes nothing.
-use Rattle.sequences.proofs.Basics.{sym, ap, ◌∙◌, arith, rules}
+use Rattle.sequences.proofs.Basics.{sym, ap, ◌∙◌, arith}
 use Rattle.tokens.specs.Reading.{size, pushed, ended_by}
 use Rattle.tokens.specs.declared.inner.tokens.Token.{Token}
 use Rattle.tokens.proofs.inner.tokens.end_token.Goals as goal

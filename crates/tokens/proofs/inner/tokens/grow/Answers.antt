@@ -1,5 +1,5 @@
 -- `grow` goes by the cases of a token. Assumes nothing.
-use Rattle.sequences.proofs.Basics.{sym, ap, rules}
+use Rattle.sequences.proofs.Basics.{sym, ap}
 use Rattle.tokens.specs.Reading.{grown}
 use Rattle.tokens.specs.declared.inner.tokens.Token.{Token}
 use Rattle.tokens.proofs.inner.tokens.grow.Goals as goal

@@ -1,6 +1,5 @@
 -- `read_radices` reads the radices of a text. The invariant: what has been read and what is left give them. Assumes nothing.
-use Rattle.sequences.proofs.Basics.{◌≡◌, refl, sym, ap, ◌∙◌, ◌≤◌, ◌+◌, ◌-◌, arith, length, get_or, take, drop, drop_of_length-le, rules}
-use Rattle.tokens.specs.Tokens.{radices}
+use Rattle.sequences.proofs.Basics.{refl, sym, ap, ◌∙◌, ◌≤◌, ◌+◌, arith, length, get_or, take, drop, drop_of_length-le, rules}
 use Rattle.tokens.specs.Reading.{room}
 use Rattle.tokens.specs.declared.inner.tokens.Reading.{Reading}
 use Rattle.tokens.proofs.Reading.{gives, gives_start, gives_next, gives_end, step_length, step_room, ended_fits}
@@ -13,16 +12,17 @@ pub step-s-requires : goal.step-s-requires
 step-s-requires c = omega arith
 
 pub loop-i-preserved : goal.loop-i-preserved
-loop-i-preserved c = let l = c.loop-i in let text = c.args.text.now in let b = get_or text l.i 0 in let e = c.step-s.ensures in let h : room l.s ≤ 4096 = omega arith in (
-  search rules,
-  (
-    omega (arith, ap room e, step_room l.s b),
-    (
-      ap (λ (s : Reading). length s.list) e ∙ step_length l.s b ∙ l.invariant.1.1.0,
-      ap (λ (s : Reading). gives s (drop (l.i + 1) text)) e ∙ gives_next l.s text l.i (search rules) h l.invariant.1.1.0 ∙ l.invariant.1.1.1,
-    ),
-  ),
-)
+loop-i-preserved c = let l = c.loop-i in let text = c.args.text.now in let b = get_or text l.i 0 in let e = c.step-s.ensures in let h : room l.s ≤ 4096 =
+    omega arith in (
+      search rules,
+      (
+        omega (arith, ap room e, step_room l.s b),
+        (
+          ap (λ (s : Reading). length s.list) e ∙ step_length l.s b ∙ l.invariant.1.1.0,
+          ap (λ (s : Reading). gives s (drop (l.i + 1) text)) e ∙ gives_next l.s text l.i (search rules) h l.invariant.1.1.0 ∙ l.invariant.1.1.1,
+        ),
+      ),
+    )
 
 pub end_token-requires : goal.end_token-requires
 end_token-requires c = omega arith

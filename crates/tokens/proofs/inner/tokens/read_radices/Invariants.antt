@@ -1,9 +1,8 @@
 -- `read_radices` reads the radices of a text. The invariant: what has been read and what is left give them. Assumes nothing.
-use Rattle.sequences.proofs.Basics.{◌≡◌, refl, sym, ap, ◌∙◌, ◌≤◌, ◌+◌, ◌-◌, arith, length, get_or, take, drop, drop_of_length-le, rules}
+use Rattle.sequences.proofs.Basics.{◌≡◌, ◌≤◌, ◌-◌, length, drop}
 use Rattle.tokens.specs.Tokens.{radices}
 use Rattle.tokens.specs.Reading.{room}
-use Rattle.tokens.specs.declared.inner.tokens.Reading.{Reading}
-use Rattle.tokens.proofs.Reading.{gives, gives_start, gives_next, gives_end, step_length, step_room, ended_fits}
+use Rattle.tokens.proofs.Reading.{gives}
 use Rattle.tokens.proofs.inner.tokens.read_radices.Given as goal
 
 abbrev pub invariant-loop-i : goal.invariant-loop-i

@@ -1,5 +1,5 @@
 -- `step` is one step of reading: a blank ends the token, any other byte goes on with it. Assumes nothing.
-use Rattle.sequences.proofs.Basics.{sym, ap, ◌∙◌, Bool, rules}
+use Rattle.sequences.proofs.Basics.{sym, ap, ◌∙◌, Bool}
 use Rattle.tokens.specs.Reading.{step_by}
 use Rattle.tokens.specs.declared.inner.tokens.Token.{Token}
 use Rattle.tokens.specs.declared.inner.tokens.Reading.{Reading}

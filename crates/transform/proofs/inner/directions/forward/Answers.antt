@@ -1,5 +1,5 @@
 -- `transform::inner::directions::forward` meets its contract. Assumes nothing.
-use Rattle.sequences.proofs.Basics.{◌∙◌, arith, rules}
+use Rattle.sequences.proofs.Basics.{◌∙◌, arith}
 use Rattle.plan.proofs.Bounds.{plan_twice}
 use Rattle.transform.proofs.Transforms.{plan_endable, forward_made}
 use Rattle.transform.proofs.inner.directions.forward.Goals as goal
@@ -11,14 +11,13 @@ stages_from-which-requires c = (
 )
 
 pub finish-requires : goal.finish-requires
-finish-requires c = let s = c.before.before.before.before.before.before.before.before.before.before.before.before.before.before in
-    let o = c.before.before.before.before.before.before.stages-from in (
-      plan_endable s.args.plan s.pre.planned _ _ (o.kept.1.1.1.1.0 ∙ s.pre.bins) s.pre.ends,
-      omega (arith, o.kept.1.1.1.0, s.pre.room),
-    )
+finish-requires c = let o = c.stages_from-which in (
+  plan_endable c.args.plan c.requires.planned _ _ (o.auto.other ∙ c.requires.bins) c.requires.ends,
+  omega (arith, o.auto.scratch, c.requires.room),
+)
 
 pub returns : goal.returns
-returns c = let s = c.before.before.before.before.before.before.before.before.before.before.before.before.before.before.before.before.before in
-    let a = s.args in let o = c.before.before.before.before.before.before.before.before.before.stages-from in
-    forward_made a.plan a.width a.stage-twiddles.now a.end-twiddles.now a.input.now a.scratch.now
-    (s.pre.samples ∙ plan_twice a.plan s.pre.planned) s.pre.room _ _ _ o.ensures.1 o.ensures.0 c.finish.ensures
+returns c = let a = c.args in let o = c.stages_from-which in
+    let both = forward_made a.plan a.width a.stage_twiddles.now a.end_twiddles.now a.input.now a.scratch.now
+    (c.requires.samples ∙ plan_twice a.plan c.requires.planned) c.requires.room _ _ _ o.ensures.scratch_after o.ensures.value c.finish.ensures in
+    record { output_after = both.0; scratch_after = both.1 }

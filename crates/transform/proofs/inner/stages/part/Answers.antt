@@ -1,5 +1,5 @@
 -- `transform::inner::stages::part` meets its contract. Assumes nothing.
-use Rattle.sequences.proofs.Basics.{sym, ap, ◌∙◌, List, rules}
+use Rattle.sequences.proofs.Basics.{sym, ap, ◌∙◌, List}
 use lib.Ieee.{Float}
 use Rattle.schedule.specs.Buffers.{held_in}
 use Rattle.scratch.specs.Scratch.{data_of}
@@ -7,8 +7,8 @@ use Rattle.scratch.proofs.Scratch.{data_length, pad_part}
 use Rattle.transform.proofs.inner.stages.part.Goals as goal
 
 pub slice_bounds-held-end : goal.slice_bounds-held-end
-slice_bounds-held-end c = sym (data_length _ _ c.before.before.pre.1)
+slice_bounds-held-end c = sym (data_length _ _ c.requires.1)
 
 pub returns : goal.returns
-returns c = let a = c.before.before.before.before.args in
+returns c = let a = c.args in
     c.held.ensures ∙ ap (λ (pad : List Float). held_in a.which (data_of a.h a.scratch.now, pad)) (pad_part a.h a.scratch.now)

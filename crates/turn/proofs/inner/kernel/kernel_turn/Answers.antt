@@ -1,5 +1,5 @@
 -- `turn::inner::kernel::kernel_turn` meets its contract. Assumes nothing.
-use Rattle.sequences.proofs.Basics.{refl, ◌∙◌, arith, rules}
+use Rattle.sequences.proofs.Basics.{refl, ◌∙◌, arith}
 use Rattle.turn.proofs.Kernel.{by_key, small, keyed, quartered}
 use Rattle.turn.proofs.inner.kernel.kernel_turn.Goals as goal
 

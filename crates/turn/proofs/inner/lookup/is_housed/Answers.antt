@@ -6,3 +6,7 @@ use Rattle.turn.proofs.inner.lookup.is_housed.Goals as goal
 
 pub returns-then-l-eq0 : goal.returns-then-l-eq0
 returns-then-l-eq0 c = housed_zero c.args.l c.if-l-eq0.true
+
+pub returns : goal.returns
+unfolding housed
+returns c = search rules

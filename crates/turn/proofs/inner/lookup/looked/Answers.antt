@@ -1,22 +1,16 @@
 -- `turn::inner::lookup::looked` meets its contract. Assumes nothing.
-use Rattle.sequences.proofs.Basics.{◌≡◌, sym, ◌∙◌, ◌*◌, ◌/◌, ◌<◌, arith}
-use Rattle.turn.specs.Calls.{part}
-use Rattle.turn.specs.Turns.{turn_at, turn_of}
+use Rattle.sequences.proofs.Basics.{sym, ◌∙◌, arith}
 use Rattle.turn.proofs.Index.{housed_pos, index_below}
 use Rattle.turn.proofs.inner.lookup.looked.Goals as goal
-
--- the index is one of the table's, and has the turn
-served : (c : goal.Start) → (c.args.t * (6720 / c.args.l) < 6720) × (turn_of (part c.args.t c.args.l) ≡ turn_at (c.args.t * (6720 / c.args.l)))
-served c = index_below c.args.t c.args.l c.requires.1.divides c.requires.1.below
 
 pub nonzero_div-l : goal.nonzero_div-l
 nonzero_div-l c = housed_pos c.args.l c.requires.1.divides
 
 pub overflow_mul-t : goal.overflow_mul-t
-overflow_mul-t c = omega (arith, (served c).0)
+overflow_mul-t c = omega (arith, (index_below c.args.t c.args.l c.requires.1.divides c.requires.1.below).0)
 
 pub at-requires : goal.at-requires
-at-requires c = (c.requires.0, (served c).0)
+at-requires c = (c.requires.0, (index_below c.args.t c.args.l c.requires.1.divides c.requires.1.below).0)
 
 pub returns : goal.returns
-returns c = c.at.ensures ∙ sym (served c).1
+returns c = c.at.ensures ∙ sym (index_below c.args.t c.args.l c.requires.1.divides c.requires.1.below).1

@@ -1,7 +1,7 @@
 -- `turn::inner::lookup::quarters` meets its contract. Assumes nothing.
-use Rattle.sequences.proofs.Basics.{arith, rules}
+use Rattle.sequences.proofs.Basics.{arith}
 use Rattle.turn.proofs.Lookup.{three_quarters}
 use Rattle.turn.proofs.inner.lookup.quarters.Goals as goal
 
 pub returns-in_default : goal.returns-in_default
-returns-in_default c = let z = c.in_default.in_default-own.rest in three_quarters c.args.n (omega (arith, z.1, z.0.1, z.0.0.1))
+returns-in_default c = three_quarters c.args.n (omega arith)

@@ -1,6 +1,5 @@
 -- `turn::inner::words::words_of` meets its contract. Assumes nothing.
 use Rattle.turn.specs.Turns.{words_of}
-use Rattle.sequences.proofs.Basics.{rules}
 use Rattle.turn.proofs.inner.words.words_of.Goals as goal
 
 pub returns-in-Zero : goal.returns-in-Zero

@@ -1,5 +1,5 @@
 -- `twiddle::inner::check::lent` meets its contract. Assumes nothing.
-use Rattle.sequences.proofs.Basics.{◌≡◌, le_refl, arith, true, rules}
+use Rattle.sequences.proofs.Basics.{◌≡◌, le_refl, arith, true}
 use Rattle.refusal.proofs.Rows.{deciding, accepted}
 use Rattle.plan.specs.Record.{is_planned}
 use Rattle.twiddle.specs.Calls.{fill_verdict}

@@ -1,7 +1,6 @@
 -- `twiddle::inner::fill::fill` meets its contract. Assumes nothing.
 use Rattle.plan.proofs.Bounds.{plan_some}
 use Rattle.twiddle.proofs.Verdicts.{taken, fill_refused, fill_accepted}
-use Rattle.sequences.proofs.Basics.{rules}
 use Rattle.twiddle.proofs.inner.fill.fill.Goals as goal
 
 pub stages-requires : goal.stages-requires
@@ -17,9 +16,10 @@ ends-requires c = let a = c.args in let t = taken a.plan a.width _ _ _ c.lent.en
 )
 
 pub returns-in-Accepted : goal.returns-in-Accepted
-returns-in-Accepted c = let a = c.args in let told = c.lent.ensures in let accepted = c.in-Accepted.is in fill_accepted a.direction a.plan a.width (a.stage-twiddles.now, a.end-twiddles.now) _ told accepted _ _ c.stages.ensures
+returns-in-Accepted c = let a = c.args in let told = c.lent.ensures in let accepted = c.in-Accepted.is in fill_accepted a.direction a.plan a.width
+    (a.stage_twiddles.now, a.end_twiddles.now) _ told accepted _ _ c.stages.ensures
     c.ends.ensures
 
 pub returns-in-Refused : goal.returns-in-Refused
-returns-in-Refused c = let a = c.args in fill_refused a.direction a.plan a.width (a.stage-twiddles.now, a.end-twiddles.now) _ c.lent.ensures _
+returns-in-Refused c = let a = c.args in fill_refused a.direction a.plan a.width (a.stage_twiddles.now, a.end_twiddles.now) _ c.lent.ensures _
     c.in-Refused.is
