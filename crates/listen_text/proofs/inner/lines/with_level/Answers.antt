@@ -1,13 +1,17 @@
 -- `with_level` adds the word for no power, or the tenths behind their sign. Assumes nothing.
-use Rattle.sequences.proofs.Basics.{lit≤, eq-eqb, ne_eqb, lt-ltb, rules}
+use Rattle.sequences.proofs.Basics.{lit≤, eq-eqb, ne_eqb, lt-ltb, le-ltb, rules}
 use Rattle.text.proofs.Growing.{said}
 use Rattle.listen_text.specs.Lines.{level_text}
 use Rattle.listen_text.proofs.inner.lines.with_level.Goals as goal
 
-pub overflow_sub-level : goal.overflow_sub-level
+pub returns-then-level-eq0 : goal.returns-then-level-eq0
 unfolding level_text
-overflow_sub-level c = said (search (rules, eq-eqb)) (lit≤ tt) c.with-bytes.ensures
+returns-then-level-eq0 c = said (search (rules, eq-eqb)) (lit≤ tt) c.with_bytes.ensures
 
-pub with_tenths-requires-2 : goal.with_tenths-requires-2
+pub returns-then-level-lt16000 : goal.returns-then-level-lt16000
 unfolding level_text
-with_tenths-requires-2 c = said (search (rules, ne_eqb, lt-ltb)) (lit≤ tt) c.with-tenths.ensures
+returns-then-level-lt16000 c = said (search (rules, ne_eqb, lt-ltb)) (lit≤ tt) c.with_tenths.ensures
+
+pub returns : goal.returns
+unfolding level_text
+returns c = said (search (rules, ne_eqb, le-ltb)) (lit≤ tt) c.with_tenths-2.ensures

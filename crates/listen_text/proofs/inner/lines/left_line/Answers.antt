@@ -1,0 +1,10 @@
+-- `left_line` adds the time, the count and the words; they fit. Assumes nothing.
+use Rattle.sequences.proofs.Basics.{lit≤}
+use Rattle.text.proofs.Growing.{then, holds}
+use Rattle.listen_text.specs.Lines.{left_line}
+use Rattle.listen_text.proofs.inner.lines.left_line.Goals as goal
+
+pub returns : goal.returns
+unfolding left_line
+returns c = holds c.empty.ensures (lit≤ tt) (then c.with_time.ensures (then c.with_bytes-timed.ensures
+    (then c.with_decimal-counted.ensures c.with_bytes.ensures)))
