@@ -1,5 +1,5 @@
 -- `listening::inner::block::beside` meets its contract. Assumes nothing.
-use Rattle.sequences.proofs.Basics.{eq-eqb, ne_eqb, rules}
+use Rattle.sequences.proofs.Basics.{eq-eqb, ne_eqb}
 use Rattle.listening.specs.Block.{besides}
 use Rattle.listening.proofs.inner.block.beside.Goals as goal
 

@@ -1,5 +1,5 @@
 -- `listening::inner::block::listen` meets its contract. Assumes nothing.
-use Rattle.sequences.proofs.Basics.{arith, rules}
+use Rattle.sequences.proofs.Basics.{arith}
 use Rattle.listening.proofs.Hearing.{block_room, listens_accepted, listens_refused}
 use Rattle.listening.proofs.inner.block.listen.Goals as goal
 

@@ -1,5 +1,5 @@
 -- `listening::inner::lengths::band` meets its contract. Assumes nothing.
-use Rattle.sequences.proofs.Basics.{arith, eq-eqb, ne_eqb, mul-le-mul, rules}
+use Rattle.sequences.proofs.Basics.{arith, eq-eqb, ne_eqb, mul-le-mul}
 use Rattle.listening.specs.Lengths.{band_of}
 use Rattle.listening.proofs.inner.lengths.band.Goals as goal
 

@@ -1,5 +1,5 @@
 -- `listening::inner::lengths::factors` meets its contract. Assumes nothing.
-use Rattle.sequences.proofs.Basics.{◌-◌, ◌≤◌, rules}
+use Rattle.sequences.proofs.Basics.{◌-◌, ◌≤◌}
 use Rattle.listening.proofs.inner.lengths.factors.Given as goal
 
 abbrev pub invariant-loop-count : goal.invariant-loop-count

@@ -1,5 +1,5 @@
 -- `listening::inner::lengths::is_served` meets its contract. Assumes nothing.
-use Rattle.sequences.proofs.Basics.{eq-eqb, ne_eqb, rules}
+use Rattle.sequences.proofs.Basics.{eq-eqb, ne_eqb}
 use Rattle.listening.specs.Lengths.{served}
 use Rattle.listening.proofs.inner.lengths.is_served.Goals as goal
 

@@ -1,5 +1,5 @@
 -- `listening::inner::lengths::most_feigned` meets its contract. Assumes nothing.
-use Rattle.sequences.proofs.Basics.{refl, ◌+◌, ◌*◌, ◌≤◌, mul-le-mul, arith, rules}
+use Rattle.sequences.proofs.Basics.{refl, ◌+◌, ◌*◌, ◌≤◌, mul-le-mul, arith}
 use Rattle.listening.specs.Lengths.{feigned}
 use Rattle.listening.proofs.inner.lengths.most_feigned.Goals as goal
 

@@ -1,6 +1,6 @@
 -- `listening::inner::lengths::nearest_served` meets its contract. The invariant: what is left of the search finds the same. Assumes nothing.
-use Rattle.sequences.proofs.Basics.{◌≡◌, sym, ap, ◌∙◌, ℕ, ◌-◌, ◌≤◌, arith, rules}
-use Rattle.listening.specs.Lengths.{served_from, nearest_served}
+use Rattle.sequences.proofs.Basics.{sym, ap, ◌∙◌, ℕ, ◌-◌, arith, rules}
+use Rattle.listening.specs.Lengths.{served_from}
 use Rattle.listening.proofs.Lengths.{served_first, served_below, served_above, served_on}
 use Rattle.listening.proofs.inner.lengths.nearest_served.Goals as goal
 

@@ -1,5 +1,5 @@
 -- `listening::inner::window::window` meets its contract. Assumes nothing.
-use Rattle.sequences.proofs.Basics.{◌≡◌, ap, ◌∙◌, ℕ, ◌-◌, ◌<◌, ◌≤◌, arith, length, get_or, rules}
+use Rattle.sequences.proofs.Basics.{◌≡◌, ap, ◌∙◌, arith, length, rules}
 use lib.Ieee.{Float, nan, binary32, sub, mul}
 use Rattle.sequences.proofs.Tables.{set_more, table_all}
 use Rattle.turn.specs.Turns.{one_half, words_of}
