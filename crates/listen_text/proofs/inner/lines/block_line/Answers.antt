@@ -6,8 +6,16 @@ use Rattle.listen_text.proofs.Powers.{power_said}
 use Rattle.listen_text.proofs.inner.lines.block_line.Goals as goal
 
 pub with_decision-requires : goal.with_decision-requires
-with_decision-requires c = omega (arith, c.empty.ensures.none, c.with_time.ensures.short, c.with_bytes-timed.ensures.short,
-    c.with_level-inside.ensures.short, c.with_bytes-between.ensures.short, c.with_level-outside.ensures.short, c.with_bytes.ensures.short)
+with_decision-requires c = omega (
+  arith,
+  c.empty.ensures.none,
+  c.with_time.ensures.short,
+  c.with_bytes-timed.ensures.short,
+  c.with_level-inside.ensures.short,
+  c.with_bytes-between.ensures.short,
+  c.with_level-outside.ensures.short,
+  c.with_bytes.ensures.short,
+)
 
 pub returns : goal.returns
 unfolding block_line
