@@ -1,4 +1,4 @@
--- The words of a turn, against the house table's numbers: each is one of them, rounded to f32; and half of it is exact. Assumes nothing.
+-- The words of a turn, against the house table's numbers: each is one of them, rounded to f32; and half of it. Assumes nothing.
 use Rattle.sequences.proofs.Basics.{◌≡◌, refl, sym, ap, ◌∙◌, subst, subst₂, ℕ, zero, suc, ◌+◌, ◌-◌, ◌*◌, ◌/◌, ◌%◌, ◌^◌, ◌≤◌, ◌<◌, zero-le, compare, le_refl}
 use Rattle.sequences.proofs.Basics.{le_trans, le_of_eq, lt_of_le_of_lt, lt_of_lt_of_le, mul-le-mul_right, mul-le-mul_left, pow-suc, div-div-eq-div-mul}
 use Rattle.sequences.proofs.Basics.{le-div_iff_mul-le, not-le_of_lt, mod-eq_of_lt, mod-lt, zero-lt-suc, arith, dec_le, Bool, true, false, dite, lit≤, lit<}
@@ -10,10 +10,7 @@ use lib.Ieee.Exact.{HasValue, round_exact}
 use lib.Ieee.Order.{drop, kept}
 use lib.Ieee.Scale.{grid, round_same}
 use Rattle.schedule.specs.Stage.{Part}
-use Rattle.house.specs.Rule.{cosine, sine}
 use Rattle.house.specs.Entries.{entry_of}
-use Rattle.house.proofs.Entries.{entry_has}
-use Rattle.house.proofs.Rule.{house_rule, entries}
 use Rattle.turn.specs.Turns.{one_half, index_of, rounded, quarters_on, numbers_at, quarters, turn_at, turn_of, words_of}
 use Rattle.turn.proofs.Lookup.{turn_whole, turn_numbers}
 use Rattle.turn.proofs.Theorems.{words_are}
@@ -24,11 +21,11 @@ use Rattle.accuracy.specs.Gauss.{Gauss, scale_g, Disc, val_c}
 use Rattle.accuracy.specs.House.{exact_at, house}
 use Rattle.accuracy.specs.Value.{Near, Signed, signed, scale, abs_z, NearZ, val, Held}
 use Rattle.accuracy.proofs.Circle.{below, spin}
-use Rattle.accuracy.proofs.Complexes.{near_abs}
+use Rattle.accuracy.proofs.Complexes.{part_re, part_im, near_abs}
 use Rattle.fractions.proofs.Fractions.{mul_at}
 use Rattle.accuracy.proofs.House.{turns, house_whole}
 use Rattle.accuracy.proofs.Plane.{triangle, disc_more, off_same}
-use Rattle.accuracy.proofs.Rounding.{grid_near, grid_fine}
+use Rattle.accuracy.proofs.Rounding.{grid_near}
 use Rattle.accuracy.proofs.Turning.{same_self}
 use Rattle.accuracy.proofs.Turns.{Close, Faithful, HalfClose}
 use Rattle.accuracy.proofs.Values.{round_grid, val_is, held_is, carry}
@@ -89,7 +86,6 @@ record Word (m : Bool) (a : ℕ) (x : Float) : Type 0 where
   has : HasValue x s g (2 ^ 149)
   signs : NearZ 0 (signed m a) (signed s a)
   near : Near (a * 2 ^ 149 + 2 ^ 23 * 2 ^ 60) (2 ^ 24 * 2 ^ 60 * g) (2 ^ 24 * 2 ^ 149 * a)
-  fine : Near (2 ^ 125 * 2 ^ 60) (2 * 2 ^ 60 * g) (2 * 2 ^ 149 * a)
   stays : g ≤ 2 * 2 ^ 149
   parts : Halved g
 
@@ -103,7 +99,7 @@ nothing true = omega arith
 same : (z : Signed) → NearZ 0 z z
 same z = omega arith
 
-word : (m : Bool) (a : ℕ) → a ≤ 2 ^ 60 → Word m a (rounded m a)
+word : (m : Bool) (a : ℕ) → a ≤ 2 ^ 61 → Word m a (rounded m a)
 unfolding rounded of_bits
 word m zero small = record {
   s = false;
@@ -111,7 +107,6 @@ word m zero small = record {
   has = (refl, refl);
   signs = nothing m;
   near = (lit≤ tt, lit≤ tt);
-  fine = (lit≤ tt, lit≤ tt);
   stays = zero-le;
   parts = record { v = 0; twice = refl; q = 0; j = 0; small = lit< tt; same = refl };
 }
@@ -124,8 +119,6 @@ word m (suc a) small =
       has = round_grid binary32 m (suc a) (2 ^ 60) (lt_of_le_of_lt stays (lit< tt));
       signs = same (signed m (suc a));
       near = reshaped (2 ^ 24) (2 ^ 60) (2 ^ 149) (grid binary32 (suc a) (2 ^ 60)) (suc a) _ (grid_near binary32 (suc a) (2 ^ 60) (pow_pos 60));
-      fine = reshaped 2 (2 ^ 60) (2 ^ 149) (grid binary32 (suc a) (2 ^ 60)) (suc a) _
-          (grid_fine binary32 (suc a) (2 ^ 60) (pow_pos 60) 125 (le_trans (mul-le-mul_right (2 ^ 149) small) (lit≤ tt)));
       stays = stays;
       parts = grid_halved a;
     }
@@ -142,11 +135,11 @@ size_is true a = omega arith
 Rounded : Float → Signed → Type 0
 Rounded x z = Held binary32 x × NearZ (abs_z z * 2 ^ 149 + 2 ^ 23 * 2 ^ 60) (scale (2 ^ 24 * 2 ^ 60) (val binary32 x)) (scale (2 ^ 24 * 2 ^ 149) z)
 
-part_rounded : (m : Bool) (a : ℕ) → abs_z (signed m a) ≤ 2 ^ 60 → Rounded (rounded m a) (signed m a)
+part_rounded : (m : Bool) (a : ℕ) → abs_z (signed m a) ≤ 2 ^ 61 → Rounded (rounded m a) (signed m a)
 unfolding Rounded
 part_rounded m a small =
     let x = rounded m a in
-    let w = word m a (size_of m a (2 ^ 60) small) in (
+    let w = word m a (size_of m a (2 ^ 61) small) in (
       held_is binary32 x w.s w.g w.has,
       subst (λ (b : ℕ). NearZ (b * 2 ^ 149 + 2 ^ 23 * 2 ^ 60) (scale (2 ^ 24 * 2 ^ 60) (val binary32 x)) (scale (2 ^ 24 * 2 ^ 149) (signed m a))) (size_is m a)
           (subst (λ (v : Signed). NearZ (a * 2 ^ 149 + 2 ^ 23 * 2 ^ 60) (scale (2 ^ 24 * 2 ^ 60) v) (scale (2 ^ 24 * 2 ^ 149) (signed m a)))
@@ -154,27 +147,14 @@ part_rounded m a small =
           (carry (2 ^ 24 * 2 ^ 60) (2 ^ 24 * 2 ^ 149) _ w.g a w.s (signed m a) w.near w.signs)),
     )
 
--- and is moved by 2 ^ -25 at most
-abbrev pub Fine : Float → Signed → Type 0
-Fine x z = NearZ (2 ^ 125 * 2 ^ 60) (scale (2 * 2 ^ 60) (val binary32 x)) (scale (2 * 2 ^ 149) z)
-
--- as each number of at most 1 is
-part_fine : (m : Bool) (a : ℕ) → abs_z (signed m a) ≤ 2 ^ 60 → Fine (rounded m a) (signed m a)
-part_fine m a small =
-    let x = rounded m a in
-    let w = word m a (size_of m a (2 ^ 60) small) in
-    subst (λ (v : Signed). NearZ (2 ^ 125 * 2 ^ 60) (scale (2 * 2 ^ 60) v) (scale (2 * 2 ^ 149) (signed m a)))
-    (sym (val_is binary32 x w.s w.g w.has))
-    (carry (2 * 2 ^ 60) (2 * 2 ^ 149) _ w.g a w.s (signed m a) w.fine w.signs)
-
 -- and half of it is exactly that
-abbrev pub HalfOf : Float → Type 0
+HalfOf : Float → Type 0
 HalfOf x = Held binary32 (mul binary32 one_half x) × NearZ 0 (scale 2 (val binary32 (mul binary32 one_half x))) (val binary32 x)
 
-part_halved : (m : Bool) (a : ℕ) → abs_z (signed m a) ≤ 2 ^ 60 → HalfOf (rounded m a)
-unfolding of_bits
+part_halved : (m : Bool) (a : ℕ) → abs_z (signed m a) ≤ 2 ^ 61 → HalfOf (rounded m a)
+unfolding HalfOf of_bits
 part_halved m a small =
-    let x = rounded m a in let w = word m a (size_of m a (2 ^ 60) small) in let s = w.s in let g = w.g in
+    let x = rounded m a in let w = word m a (size_of m a (2 ^ 61) small) in let s = w.s in let g = w.g in
     let H = w.parts in let v = H.v in
     let is : mul binary32 one_half x ≡ round binary32 (unlike false s) v (2 ^ 149) =
     mul_at binary32 one_half x false s 1 g 2 (2 ^ 149) (lit< tt) (pow_pos 149) (refl, refl) w.has
@@ -203,8 +183,8 @@ part_halved m a small =
 
 -- ---- both words at an index
 
-pair : (P : Float → Signed → Type 0) → ((m : Bool) (a : ℕ) → abs_z (signed m a) ≤ 2 ^ 60 → P (rounded m a) (signed m a)) → (q c s : ℕ)
-    → abs_z (quarters_on signed q c s).0 ≤ 2 ^ 60 → abs_z (quarters_on signed q c s).1 ≤ 2 ^ 60
+pair : (P : Float → Signed → Type 0) → ((m : Bool) (a : ℕ) → abs_z (signed m a) ≤ 2 ^ 61 → P (rounded m a) (signed m a)) → (q c s : ℕ)
+    → abs_z (quarters_on signed q c s).0 ≤ 2 ^ 61 → abs_z (quarters_on signed q c s).1 ≤ 2 ^ 61
     → P (quarters_on rounded q c s).0 (quarters_on signed q c s).0 × P (quarters_on rounded q c s).1 (quarters_on signed q c s).1
 pair P f zero c s u v = (f false c u, f true s v)
 pair P f (suc zero) c s u v = (f true s u, f true c v)
@@ -234,23 +214,6 @@ both_close w t d re im =
           });
     }
 
--- no number of the table is above 1
-table_most : (index : ℕ) → (abs_z (exact_at index).0 ≤ 2 ^ 60) × (abs_z (exact_at index).1 ≤ 2 ^ 60)
-table_most index = turned (entry_of index).quarter (entry_of index).cosine (entry_of index).sine (entry_has (λ x. x ≤ 2 ^ 60) index (λ b l z. most b l))
-  where
-    most : (b : ℕ) → b ≤ 840 → (cosine b ≤ 2 ^ 60) × (sine b ≤ 2 ^ 60)
-    most zero l = (le_of_eq house_rule.first.0, le_trans (le_of_eq house_rule.first.1) zero-le)
-    most (suc b) l = let e = entries (suc b) (zero-lt-suc b) l in (e.0.1, e.1.1)
-
-    size : (m : Bool) (a : ℕ) → a ≤ 2 ^ 60 → abs_z (signed m a) ≤ 2 ^ 60
-    size m a l = le_trans (le_of_eq (sym (size_is m a))) l
-
-    turned : (q c s : ℕ) → (c ≤ 2 ^ 60) × (s ≤ 2 ^ 60) → (abs_z (quarters_on signed q c s).0 ≤ 2 ^ 60) × (abs_z (quarters_on signed q c s).1 ≤ 2 ^ 60)
-    turned zero c s h = (size false c h.0, size true s h.1)
-    turned (suc zero) c s h = (size true s h.1, size true c h.0)
-    turned (suc (suc zero)) c s h = (size true c h.0, size false s h.1)
-    turned (suc (suc (suc q))) c s h = (size false s h.1, size false c h.0)
-
 -- the two numbers of an index, and the halves of both
 abbrev numbers : ℕ → Complex
 numbers index = cx (numbers_at index).0 (numbers_at index).1
@@ -262,6 +225,7 @@ doubled : (K G : ℕ) (x y : Signed) → NearZ 0 (scale 2 x) y → NearZ 0 (scal
 doubled K G x y e = omega (arith, mul-le-mul_left (K * G) e.0, mul-le-mul_left (K * G) e.1)
 
 half_close : (w : Gauss) (t : Complex) → Close w t → HalfOf t.re → HalfOf t.im → HalfClose w (halves t)
+unfolding HalfOf
 half_close w t cl re im =
     record {
       re = re.0;
@@ -284,10 +248,11 @@ module _ (index : ℕ) (l : index < 6720) where
   disc : Disc (2 ^ 60 + 1) (record { re = (exact_at index).0; im = (exact_at index).1 })
   disc = subst (Disc (2 ^ 60 + 1)) here (turns.norm index)
 
-  each : (P : Float → Signed → Type 0) → ((m : Bool) (a : ℕ) → abs_z (signed m a) ≤ 2 ^ 60 → P (rounded m a) (signed m a))
+  each : (P : Float → Signed → Type 0) → ((m : Bool) (a : ℕ) → abs_z (signed m a) ≤ 2 ^ 61 → P (rounded m a) (signed m a))
       → P (numbers_at index).0 (exact_at index).0 × P (numbers_at index).1 (exact_at index).1
   unfolding numbers_at
-  each P f = pair P f (entry_of index).quarter (entry_of index).cosine (entry_of index).sine (table_most index).0 (table_most index).1
+  each P f = pair P f (entry_of index).quarter (entry_of index).cosine (entry_of index).sine
+      (le_trans (part_re (2 ^ 60 + 1) _ disc) (lit≤ tt)) (le_trans (part_im (2 ^ 60 + 1) _ disc) (lit≤ tt))
 
   pub numbers_close : Close (house index) (numbers index)
   numbers_close =
@@ -331,12 +296,6 @@ module _ (a : Part) where
   unfolding turn_of
   turn_faithful = at_faithful (index_of a) inside
 
-  -- what is so of each number of at most 1 and its rounding is so of the table's two numbers and the two words
-  each_word : (P : Float → Signed → Type 0) → ((m : Bool) (b : ℕ) → abs_z (signed m b) ≤ 2 ^ 60 → P (rounded m b) (signed m b))
-      → P (words_of (turn_of a)).0 (house (index_of a)).re × P (words_of (turn_of a)).1 (house (index_of a)).im
-  each_word P f = subst₂ (λ (w : Float × Float) (z : Gauss). P w.0 z.re × P w.1 z.im) (sym (words_are a)) (sym (here (index_of a) inside))
-      (each (index_of a) inside P f)
-
   -- the words that are filled for it
   pub words_close : Close (house (index_of a)) (cx (words_of (turn_of a)).0 (words_of (turn_of a)).1)
   words_close = subst (λ (w : Float × Float). Close (house (index_of a)) (cx w.0 w.1)) (sym (words_are a)) (numbers_close (index_of a) inside)
@@ -345,11 +304,3 @@ module _ (a : Part) where
   pub words_halved : HalfClose (house (index_of a)) (cx (mul binary32 one_half (words_of (turn_of a)).0) (mul binary32 one_half (words_of (turn_of a)).1))
   words_halved = subst (λ (w : Float × Float). HalfClose (house (index_of a)) (cx (mul binary32 one_half w.0) (mul binary32 one_half w.1))) (sym (words_are a))
       (numbers_halved (index_of a) inside)
-
-  -- each word is within 2 ^ -25 of the table's number
-  pub words_fine : Fine (words_of (turn_of a)).0 (house (index_of a)).re × Fine (words_of (turn_of a)).1 (house (index_of a)).im
-  words_fine = each_word Fine part_fine
-
-  -- and half of it is exact
-  pub words_half : HalfOf (words_of (turn_of a)).0 × HalfOf (words_of (turn_of a)).1
-  words_half = each_word (λ x z. HalfOf x) part_halved

@@ -1,11 +1,9 @@
 -- How far `round` moves a fraction, in units of the format's smallest value. That it passes no value of its format
 -- is `grid_bound` of crates/finite. Assumes nothing.
-use Rattle.sequences.proofs.Basics.{◌≡◌, sym, ap, ◌∙◌, subst, ℕ, suc, ◌+◌, ◌-◌, ◌*◌, ◌/◌, ◌%◌, ◌^◌, ◌≤◌, ◌<◌, compare, Ordering, ordering_lt, ordering_eq}
-use Rattle.sequences.proofs.Basics.{ordering_gt, le_trans, le_antisymm, lt_of_not-le, le-div_iff_mul-le, mul-div_cancel, pow-add, pow-lt, pow_mono}
+use Rattle.sequences.proofs.Basics.{◌≡◌, subst, ℕ, ◌+◌, ◌-◌, ◌*◌, ◌/◌, ◌%◌, ◌^◌, ◌≤◌, ◌<◌, compare, Ordering, ordering_lt, ordering_eq, ordering_gt, le_trans}
 use Rattle.sequences.proofs.Basics.{le_of_lt, mul-one, mul-le-mul_right, mul-le-mul_left, le_of_mul-le-mul_right, mul-pos, div-add-mod', mod-lt, arith, dec_le}
 use Rattle.sequences.proofs.Basics.{not, dite, T, is_le, compare_is_eq, leb→le, nleb→lt, eqb→eq, pow_pos}
 use lib.Ieee.{Format, prec, low, nearest}
-use lib.Ieee.Digits.{size-le}
 use lib.Ieee.Fits.{two, two-le_pos}
 use lib.Ieee.Nearest.{closest}
 use lib.Ieee.Order.{drop, kept}
@@ -55,34 +53,6 @@ module _ (p n den : ℕ) (P : 0 < p) (D : 0 < den) where
       let b : H * (2 * n) ≤ H * (2 * (c * (den * K)) + den * K) = mul-le-mul_left H e.1 in
       rw (twice p n den P D) (omega (arith, unit_small))
 
--- at most 2 ^ (p + t), it is off by half of 2 ^ t at most
-module _ (p n den t : ℕ) (P : 0 < p) (D : 0 < den) (most : n ≤ 2 ^ (p + t) * den) where
-  -- below that, no more than t digits are dropped
-  under : n / den < 2 ^ (p + t) → Near (2 ^ t * den) (2 * (kept p n den * 2 ^ drop p n den * den)) (2 * n)
-  under l =
-      let k = drop p n den in let K = 2 ^ k in
-      let few : k ≤ t = omega (arith, size-le (n / den) (p + t) l) in
-      let b : den * K ≤ den * 2 ^ t = mul-le-mul_left den (pow_mono few) in
-      let e = closest_near n (den * K) (mul-pos D (pow_pos k)) in
-      omega arith
-
-  -- and 2 ^ (p + t) itself is kept
-  full : 2 ^ (p + t) ≤ n / den → Near (2 ^ t * den) (2 * (kept p n den * 2 ^ drop p n den * den)) (2 * n)
-  full l =
-      let k = drop p n den in let K = 2 ^ k in
-      let is : n ≡ 2 ^ (p + t) * den = le_antisymm most ((le-div_iff_mul-le D).0 l) in
-      let whole : n / den ≡ 2 ^ (p + t) = ap (λ (x : ℕ). x / den) is ∙ mul-div_cancel (2 ^ (p + t)) D in
-      let few : k ≤ p + t = omega (arith, size-le (n / den) (suc (p + t)) (subst (λ (x : ℕ). x < 2 ^ suc (p + t)) (sym whole) (pow-lt (omega arith)))) in
-      let r = 2 ^ (p + t - k) in
-      let parts : r * K ≡ 2 ^ (p + t) = sym (pow-add 2 (p + t - k) k) ∙ ap (λ (x : ℕ). 2 ^ x) (omega arith) in
-      let same : n ≡ r * (den * K) = is ∙ ap (λ (x : ℕ). x * den) (sym parts) ∙ omega arith in
-      let c : kept p n den ≡ r = ap (λ (x : ℕ). closest x (den * K)) same ∙ closest_whole r (den * K) (mul-pos D (pow_pos k)) in
-      rw c (omega arith)
-
-  -- so it is in either case
-  pub kept_fine : Near (2 ^ t * den) (2 * (kept p n den * 2 ^ drop p n den * den)) (2 * n)
-  kept_fine = dite (dec_le (2 ^ (p + t)) (n / den)) full (λ (g : 2 ^ (p + t) ≤ n / den → ⊥). under (lt_of_not-le g))
-
 -- a whole number is off by a 2 ^ p-th part of itself at most
 module _ (p v den : ℕ) (P : 0 < p) (D : 0 < den) where
   pub whole_near : Near v (2 ^ p * (kept p (v * den) den * 2 ^ drop p (v * den) den)) (2 ^ p * v)
@@ -109,17 +79,6 @@ module _ (f : Format) (a c : ℕ) (C : 0 < c) where
   pub grid_near : Near (a * 2 ^ low f + 2 ^ (prec f - 1) * c) (2 ^ prec f * (grid f a c * c)) (2 ^ prec f * (a * 2 ^ low f))
   grid_near = kept_near (prec f) (a * 2 ^ low f) c P C
 
-  -- and, being at most 2 ^ (prec + t) units, by half of 2 ^ t units at most
-  pub grid_fine : (t : ℕ) → a * 2 ^ low f ≤ 2 ^ (prec f + t) * c → Near (2 ^ t * c) (2 * (grid f a c * c)) (2 * (a * 2 ^ low f))
-  grid_fine t most = kept_fine (prec f) (a * 2 ^ low f) c t P C most
-
 -- v units, a whole number of them, move by a 2 ^ prec-th part of themselves at most
 pub units_near : (f : Format) (v : ℕ) → Near v (2 ^ prec f * grid f v (2 ^ low f)) (2 ^ prec f * v)
 units_near f v = whole_near (prec f) v (2 ^ low f) (two-le_pos (prec f) (two f)) (pow_pos (low f))
-
--- and, being at most 2 ^ (prec + t), by half of 2 ^ t at most
-pub units_fine : (f : Format) (v t : ℕ) → v ≤ 2 ^ (prec f + t) → Near (2 ^ t) (2 * grid f v (2 ^ low f)) (2 * v)
-units_fine f v t most =
-    let U = 2 ^ low f in let g = grid f v U in
-    let n = grid_fine f v U (pow_pos (low f)) t (mul-le-mul_right U most) in
-    (le_of_mul-le-mul_right {m = 2 * g} (omega arith) (pow_pos (low f)), le_of_mul-le-mul_right {m = 2 * v} (omega arith) (pow_pos (low f)))
