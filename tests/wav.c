@@ -1,9 +1,11 @@
 /* wav.c: a C host that holds the three calls of WAV files against a reader of its own, which follows the text of ladlespindle.h: files that are
  * damaged, cut and lengthened, chunks in every order, sizes and rates at their bounds, every sample, and what a call may not touch. Exits 1 on a
- * difference. With arguments it turns a WAV file into bare numbers of 16 bits and back, for tests/sox, and prints what the call answers:
+ * difference. With arguments it turns a WAV file into bare numbers of 16 bits and back, for tests/sox, and prints what the call answers, or keeps
+ * damaged files in a folder, for tests/listen, each named by a count, its refusal and its place:
  *
  *     wav read FILE BARE
- *     wav write RATE BARE FILE */
+ *     wav write RATE BARE FILE
+ *     wav damaged FOLDER */
 #define _DEFAULT_SOURCE
 #include "host.h"
 #include <math.h>
@@ -192,9 +194,40 @@ static void reads(const char *name, size_t n, const uint8_t *lent, struct judged
     check_at(memcmp(lent, file, length) == 0, name, n, "the file stays");
 }
 
+/* Where files are kept instead of being measured and read, or NULL. */
+static const char *folder;
+
+static void save(const char *path, const uint8_t *at, size_t count)
+{
+    FILE *to = fopen(path, "wb");
+    if (!to || fwrite(at, 1, count, to) != count || fclose(to) != 0) fprintf(stderr, "wav: cannot write %s\n", path), exit(2);
+}
+
+/* Keeps the file under a count, its refusal and its place, unless one of this name has been kept that is refused alike, at the same n, or accepted. */
+static void keep(const char *name, size_t n, struct judged wanted)
+{
+    static struct {
+        const char *name;
+        size_t n, place;
+        uint32_t number;
+    } kept[8192];
+    static size_t count;
+    char path[512];
+    for (size_t i = 0; i < count; i++)
+        if (kept[i].name == name && (kept[i].n == n || wanted.number == 0) && kept[i].number == wanted.number && kept[i].place == wanted.place) return;
+    kept[count].name = name, kept[count].n = n, kept[count].number = wanted.number, kept[count].place = wanted.place;
+    snprintf(path, sizeof path, "%s/%04zu-%u-%zu.wav", folder, count, (unsigned)wanted.number, wanted.place);
+    save(path, file, length);
+    if (++count == 8192) fprintf(stderr, "wav: too many files\n"), exit(2);
+}
+
 /* The file measured and read: into its samples, and one word fewer or more. */
 static void judged(const char *name, size_t n)
 {
+    if (folder != NULL) {
+        keep(name, n, judge(file, length));
+        return;
+    }
     const uint8_t *lent = memcpy(lent_end - length, file, length);
     struct judged wanted = judge(file, length);
     check_at(same(wanted, ladlespindle_wav_measure(lent, length)), name, n, "measured");
@@ -564,12 +597,6 @@ static size_t load(const char *path, uint8_t *at, size_t most)
     return count;
 }
 
-static void save(const char *path, const uint8_t *at, size_t count)
-{
-    FILE *to = fopen(path, "wb");
-    if (!to || fwrite(at, 1, count, to) != count || fclose(to) != 0) fprintf(stderr, "wav: cannot write %s\n", path), exit(2);
-}
-
 /* A WAV file turned into bare numbers; what the calls answer. */
 static int bare(const char *from, const char *to)
 {
@@ -605,6 +632,7 @@ int main(int count, char **words)
 {
     if (count == 4 && strcmp(words[1], "read") == 0) return bare(words[2], words[3]);
     if (count == 5 && strcmp(words[1], "write") == 0) return dressed((uint32_t)strtoul(words[2], NULL, 10), words[3], words[4]);
+    if (count == 3 && strcmp(words[1], "damaged") == 0) folder = words[2];
     lent_end = fenced(ROOM);
     output_end = fenced(ROOM);
     samples_end = fenced(ROOM);
@@ -614,10 +642,11 @@ int main(int count, char **words)
     cut(plain_none, "a cut file of no samples");
     cut(plain_three, "a cut file");
     cut(rich, "a cut file of many chunks");
-    orders();
-    pads();
     sizes();
     rates();
+    if (folder != NULL) return 0;
+    orders();
+    pads();
     every_sample();
     which_fit();
     unfit();
