@@ -642,11 +642,13 @@ int main(int count, char **words)
     cut(plain_none, "a cut file of no samples");
     cut(plain_three, "a cut file");
     cut(rich, "a cut file of many chunks");
+    if (folder == NULL) {
+        orders();
+        pads();
+    }
     sizes();
     rates();
     if (folder != NULL) return 0;
-    orders();
-    pads();
     every_sample();
     which_fit();
     unfit();
