@@ -1,7 +1,7 @@
 -- What an accepted filling tells: a plan whose length divides the circle, with few small radices. Assumes nothing.
 use Rattle.sequences.proofs.Basics.{◌≡◌, ap, ◌∙◌, subst, ℕ, ◌*◌, ◌/◌, ◌≤◌, ◌<◌, le_trans, le_of_eq, mul_comm, arith, true, lit≤, length}
-use Rattle.refusal.specs.declared.Verdict.{Verdict}
-use Rattle.refusal.specs.declared.Verdict.TheVariants.{Accepted}
+use Rattle.refusal.specs.Refusal.{Verdict}
+use Rattle.refusal.specs.Refusal.{Accepted}
 use Rattle.counts.specs.Counts.{radix}
 use Rattle.plan.specs.Record.{is_planned}
 use Rattle.plan.specs.declared.Record.{Record}

@@ -2,8 +2,8 @@
 use Rattle.sequences.proofs.Basics.{◌≡◌, sym, ap, ap₂, ◌∙◌, subst, ℕ, zero, suc, ◌+◌, ◌*◌, ◌/◌, ◌^◌, ◌≤◌, ◌<◌, le_refl, le_trans, mul-le-mul_right}
 use Rattle.sequences.proofs.Basics.{arith, List, length, get_or}
 use lib.Ieee.{Float, nan, binary32, mul, of_bits}
-use Rattle.refusal.specs.declared.Verdict.{Verdict}
-use Rattle.refusal.specs.declared.Verdict.TheVariants.{Accepted}
+use Rattle.refusal.specs.Refusal.{Verdict}
+use Rattle.refusal.specs.Refusal.{Accepted}
 use Rattle.refusal.proofs.Rows.{settled}
 use Rattle.counts.specs.Counts.{end_count}
 use Rattle.plan.specs.declared.Record.{Record}

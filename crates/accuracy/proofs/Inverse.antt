@@ -6,8 +6,8 @@ use Rattle.sequences.proofs.Basics.{pow_pos}
 use lib.Ieee.{Float, nan, binary32, neg}
 use Rattle.sequences.specs.Lists.{tabulate}
 use Rattle.sequences.proofs.Tables.{get_d_tabulate, length_tabulate}
-use Rattle.refusal.specs.declared.Verdict.{Verdict}
-use Rattle.refusal.specs.declared.Verdict.TheVariants.{Accepted}
+use Rattle.refusal.specs.Refusal.{Verdict}
+use Rattle.refusal.specs.Refusal.{Accepted}
 use Rattle.refusal.proofs.Rows.{settled}
 use Rattle.counts.specs.Counts.{end_count, result_in}
 use Rattle.counts.specs.declared.Buffer.{Buffer}

@@ -8,8 +8,8 @@ use Rattle.sequences.proofs.Basics.{◌≡◌, refl, sym, ap, ◌∙◌, subst, 
 use Rattle.sequences.proofs.Basics.{mul-le-mul_left, mul-le-mul_right, add-le-add, mul-pos, le_of_mul-le-mul_left, le_of_mul-le-mul_right, arith, dec_le, true}
 use Rattle.sequences.proofs.Basics.{dite, List, [], ◌∷◌, T, lit≤, lit<, length, get_or, lt_of_le_of_lt, lt_of_not-le, lt-ltb, le-ltb}
 use lib.Ieee.{Float, nan, binary32}
-use Rattle.refusal.specs.declared.Verdict.{Verdict}
-use Rattle.refusal.specs.declared.Verdict.TheVariants.{Accepted}
+use Rattle.refusal.specs.Refusal.{Verdict}
+use Rattle.refusal.specs.Refusal.{Accepted}
 use Rattle.radices.specs.Lists.{product, padded, count_of, eq_list}
 use Rattle.merging.specs.Merging.{tally, sorted}
 use Rattle.plan.specs.Record.{record_of, in_order, sized, is_planned}

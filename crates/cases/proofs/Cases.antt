@@ -4,8 +4,8 @@ use lib.Ieee.{Float, of_int, of_bits, add, sub, mul, neg}
 use Rattle.refusal.specs.Refusal.{left}
 use Rattle.refusal.specs.declared.Refusal.{Refusal}
 use Rattle.refusal.specs.declared.Refusal.TheVariants.{Base}
-use Rattle.refusal.specs.declared.Verdict.{Verdict}
-use Rattle.refusal.specs.declared.Verdict.TheVariants.{Accepted, Refused}
+use Rattle.refusal.specs.Refusal.{Verdict}
+use Rattle.refusal.specs.Refusal.{Accepted, Refused}
 use Rattle.refusal.proofs.Rows.{settled}
 use Rattle.counts.specs.Counts.{radix, stride, twiddle_count, twiddle_start, end_count, result_in}
 use Rattle.halving.specs.Half.{halving, halved, half}

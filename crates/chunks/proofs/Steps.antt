@@ -1,7 +1,7 @@
 -- One chunk, by what its id is. Assumes nothing.
 use Rattle.sequences.proofs.Basics.{◌≡◌, refl, ℕ, ◌-◌, ◌≤◌, ◌<◌, arith, Bool, true, false, ◌&&◌, List, eqb, eq-eqb, ne_eqb, lt-ltb, le-ltb}
 use Rattle.refusal.specs.declared.Refusal.TheVariants.{Wav}
-use Rattle.refusal.specs.declared.Verdict.TheVariants.{Refused}
+use Rattle.refusal.specs.Refusal.{Refused}
 use Rattle.little.specs.Numbers.{number_at}
 use Rattle.fields.specs.Fields.{mark}
 use Rattle.chunks.specs.Chunks.{chunk_at, going, at_data, at_format, at_other, stepped}

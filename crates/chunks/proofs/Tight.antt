@@ -4,8 +4,8 @@ use Rattle.sequences.proofs.Basics.{List, length, drop, eqb, eq-eqb, ne_eqb, le_
 use Rattle.refusal.specs.Refusal.{verdict}
 use Rattle.refusal.specs.declared.Refusal.{Refusal}
 use Rattle.refusal.specs.declared.Refusal.TheVariants.{Wav}
-use Rattle.refusal.specs.declared.Verdict.{Verdict}
-use Rattle.refusal.specs.declared.Verdict.TheVariants.{Accepted, Refused}
+use Rattle.refusal.specs.Refusal.{Verdict}
+use Rattle.refusal.specs.Refusal.{Accepted, Refused}
 use Rattle.little.specs.Numbers.{number_at}
 use Rattle.fields.specs.Fields.{mark, padded, head_rows, data_rows, format_rows, other_rows}
 use Rattle.chunks.specs.Chunks.{chunk_at, samples_from, going, begun, at_data, at_format, at_other, stepped, walked, walk_in, walk_of}

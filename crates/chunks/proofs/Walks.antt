@@ -4,7 +4,7 @@ use Rattle.sequences.proofs.Basics.{List, length, dite, dec_lt, ℕ_discrete}
 use Rattle.refusal.specs.Refusal.{verdict}
 use Rattle.refusal.specs.declared.Refusal.{Refusal}
 use Rattle.refusal.specs.declared.Refusal.TheVariants.{Wav}
-use Rattle.refusal.specs.declared.Verdict.TheVariants.{Accepted}
+use Rattle.refusal.specs.Refusal.{Accepted}
 use Rattle.little.specs.Numbers.{number_at}
 use Rattle.fields.specs.Fields.{mark, padded, head_rows, data_rows, format_rows, other_rows}
 use Rattle.chunks.specs.Chunks.{chunk_at, samples_from, begun, at_data, at_format, at_other, stepped, on_by, walked, walk_in, walk_of}

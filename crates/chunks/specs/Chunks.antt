@@ -2,8 +2,8 @@
 use Rattle.std.specs.Prelude.{ℕ, zero, suc, ◌+◌, ◌-◌, ◌/◌, Bool, true, false, cond, ◌&&◌, List, [], ◌∷◌, eqb, ltb, length, drop}
 use Rattle.refusal.specs.Refusal.{◌⇒◌, verdict}
 use Rattle.refusal.specs.declared.Refusal.TheVariants.{Wav}
-use Rattle.refusal.specs.declared.Verdict.{Verdict}
-use Rattle.refusal.specs.declared.Verdict.TheVariants.{Accepted, Refused}
+use Rattle.refusal.specs.Refusal.{Verdict}
+use Rattle.refusal.specs.Refusal.{Accepted, Refused}
 use Rattle.little.specs.Numbers.{number_at}
 use Rattle.fields.specs.Fields.{mark, padded, head_rows, format_rows, data_rows, other_rows}
 use Rattle.chunks.specs.declared.inner.walk.Walk.{Walk}

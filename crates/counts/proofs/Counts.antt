@@ -9,7 +9,7 @@ use Rattle.plan.specs.declared.Record.{Record}
 use Rattle.radices.proofs.Lists.{product_append, product_next, get_d_any}
 use Rattle.radices.proofs.Products.{Radical, radical_parts, product_positive}
 use Rattle.refusal.specs.declared.Refusal.TheVariants.{NotPlanned}
-use Rattle.refusal.specs.declared.Verdict.TheVariants.{Accepted, Refused}
+use Rattle.refusal.specs.Refusal.{Accepted, Refused}
 use Rattle.plan.proofs.Bounds.{plan_order, plan_sized, plan_half, plan_long, plan_radical, plan_radix_bounds}
 
 product_prefix : (xs : List ℕ) (i : ℕ) → Radical xs → product (take i xs) ≤ product xs

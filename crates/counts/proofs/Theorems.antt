@@ -1,6 +1,6 @@
 -- Which records are refused. Assumes nothing.
 use Rattle.sequences.proofs.Basics.{◌≡◌, refl, Bool, true, false}
-use Rattle.refusal.specs.declared.Verdict.TheVariants.{Accepted, Refused}
+use Rattle.refusal.specs.Refusal.{Accepted, Refused}
 use Rattle.refusal.specs.declared.Refusal.TheVariants.{NotPlanned}
 use Rattle.plan.specs.declared.Record.{Record}
 use Rattle.counts.specs.Counts.{record_verdict}

@@ -2,8 +2,8 @@
 use Rattle.sequences.proofs.Basics.{◌≡◌, sym, ◌∙◌, ℕ, ◌-◌, ◌*◌, ◌%◌, ◌≤◌, ◌<◌, arith, List}
 use Rattle.refusal.specs.Refusal.{verdict}
 use Rattle.refusal.specs.declared.Refusal.{Refusal}
-use Rattle.refusal.specs.declared.Verdict.{Verdict}
-use Rattle.refusal.specs.declared.Verdict.TheVariants.{Accepted, Refused}
+use Rattle.refusal.specs.Refusal.{Verdict}
+use Rattle.refusal.specs.Refusal.{Accepted, Refused}
 use Rattle.refusal.proofs.Rows.{refused_on, accepted_on, deciding, accepted}
 use Rattle.little.specs.Numbers.{number_at}
 use Rattle.fields.specs.Fields.{mark, padded, head_rows, kind_rows, rate_rows, format_rows, data_rows, other_rows}

@@ -3,7 +3,7 @@ use Rattle.sequences.proofs.Basics.{◌≡◌, sym, subst, ℕ, ◌+◌, ◌-◌
 use Rattle.sequences.proofs.Basics.{get_or, pow_pos, le-leb}
 use lib.IntN.{ℤ, nat_abs}
 use lib.Ieee.{Float, nan, inf, fin, up, down}
-use Rattle.refusal.specs.declared.Verdict.TheVariants.{Accepted}
+use Rattle.refusal.specs.Refusal.{Accepted}
 use Rattle.refusal.proofs.Rows.{deciding}
 use Rattle.plan.specs.declared.Record.{Record}
 use Rattle.scan.specs.Scan.{fits, first_unfit}

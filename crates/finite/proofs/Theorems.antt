@@ -5,8 +5,8 @@
 use Rattle.sequences.proofs.Basics.{◌≡◌, refl, sym, ap, ◌∙◌, subst, ℕ, ◌+◌, ◌-◌, ◌*◌, ◌<◌, arith, not, List, T, lit≤, length, get_or, eqb-true}
 use lib.IntN.{ℤ, pos, ◌*ℤ◌}
 use lib.Ieee.{Float, nan, is_nan}
-use Rattle.refusal.specs.declared.Verdict.{Verdict}
-use Rattle.refusal.specs.declared.Verdict.TheVariants.{Accepted}
+use Rattle.refusal.specs.Refusal.{Verdict}
+use Rattle.refusal.specs.Refusal.{Accepted}
 use Rattle.refusal.proofs.Rows.{settled}
 use Rattle.plan.specs.declared.Record.{Record}
 use Rattle.twiddle.specs.Calls.{Fills}

@@ -3,8 +3,8 @@ use Rattle.std.specs.Prelude.{ℕ, ◌+◌, ◌-◌, ◌≡◌, cond, ◌||◌, 
 use Rattle.std.specs.Float.Ieee.{lt}
 use Rattle.refusal.specs.Refusal.{◌⇒◌, verdict, left}
 use Rattle.refusal.specs.declared.Refusal.TheVariants.{Bins}
-use Rattle.refusal.specs.declared.Verdict.{Verdict}
-use Rattle.refusal.specs.declared.Verdict.TheVariants.{Accepted, Refused}
+use Rattle.refusal.specs.Refusal.{Verdict}
+use Rattle.refusal.specs.Refusal.{Accepted, Refused}
 use Rattle.plan.specs.declared.Record.{Record}
 use Rattle.turn.specs.Turns.{+0}
 use Rattle.transform.specs.Transforms.{Slices, forward_of}

@@ -1,8 +1,8 @@
 -- Laws of the answers: counts of a list's plan by the verdict on the list, and acceptance as a number. Assumes nothing.
 use Rattle.sequences.proofs.Basics.{◌≡◌, refl, sym, ap, ◌∙◌, ℕ, arith, Bool, true, false, false≢true, List}
 use Rattle.refusal.specs.Refusal.{number_in, place_in}
-use Rattle.refusal.specs.declared.Verdict.{Verdict}
-use Rattle.refusal.specs.declared.Verdict.TheVariants.{Accepted, Refused}
+use Rattle.refusal.specs.Refusal.{Verdict}
+use Rattle.refusal.specs.Refusal.{Accepted, Refused}
 use Rattle.radices.specs.Lists.{product, count_of, padded, eq_list}
 use Rattle.merging.specs.Merging.{tally, sorted}
 use Rattle.plan.specs.Record.{plan_verdict, record_of, no_record, accepted_plan, refused_plan, planned_by, planned, Plannable, Accepts, in_order}

@@ -3,8 +3,8 @@ use Rattle.sequences.proofs.Basics.{◌≡◌, sym, ap, ◌∙◌, ℕ}
 use lib.Ieee.{Float}
 use Rattle.refusal.specs.Refusal.{number_of, place_of, number_in, place_in, left, Settles}
 use Rattle.refusal.specs.declared.Refusal.{Refusal}
-use Rattle.refusal.specs.declared.Verdict.{Verdict}
-use Rattle.refusal.specs.declared.Verdict.TheVariants.{Accepted, Refused}
+use Rattle.refusal.specs.Refusal.{Verdict}
+use Rattle.refusal.specs.Refusal.{Accepted, Refused}
 use Rattle.counts.specs.Counts.{result_in, buffer_number}
 use Rattle.plan.specs.declared.Record.{Record}
 use Rattle.schedule.specs.Buffers.{Two}

@@ -1,7 +1,7 @@
 -- Two answers that meet a promise are equal: one theorem for each exported function. Assumes nothing.
 use Rattle.sequences.proofs.Basics.{◌≡◌, refl, sym, ℕ, zero, suc, ◌≤◌, arith, List}
 use lib.Ieee.{Float}
-use Rattle.refusal.specs.declared.Verdict.{Verdict}
+use Rattle.refusal.specs.Refusal.{Verdict}
 use Rattle.refusal.proofs.Unique.{agree}
 use Rattle.plan.specs.declared.Record.{Record}
 use Rattle.schedule.specs.Buffers.{Two}

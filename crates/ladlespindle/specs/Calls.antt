@@ -1,7 +1,7 @@
 -- What the exported functions that are no planning answer, and what they leave in the buffers they are lent. Assumes nothing.
 use Rattle.std.specs.Prelude.{ℕ, ◌+◌, ◌-◌, ◌≡◌, List, Float, length}
 use Rattle.refusal.specs.Refusal.{number_in, place_in, left}
-use Rattle.refusal.specs.declared.Verdict.{Verdict}
+use Rattle.refusal.specs.Refusal.{Verdict}
 use Rattle.counts.specs.Counts.{result_in, buffer_number}
 use Rattle.plan.specs.declared.Record.{Record}
 use Rattle.schedule.specs.Buffers.{Two}

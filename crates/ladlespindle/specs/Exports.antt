@@ -1,8 +1,8 @@
 -- What each exported function answers for which list. Assumes nothing.
 use Rattle.std.specs.Prelude.{ℕ, ◌+◌, ◌*◌, ◌≤◌, ◌≡◌, ◌↔◌, List, get_or}
 use Rattle.refusal.specs.Refusal.{number_in, place_in}
-use Rattle.refusal.specs.declared.Verdict.{Verdict}
-use Rattle.refusal.specs.declared.Verdict.TheVariants.{Accepted, Refused}
+use Rattle.refusal.specs.Refusal.{Verdict}
+use Rattle.refusal.specs.Refusal.{Accepted, Refused}
 use Rattle.plan.specs.Record.{plan_verdict, record_of, planned, Plannable}
 use Rattle.counts.specs.Counts.{stage_twiddles, end_count, result_in, buffer_number}
 use Rattle.scaling.specs.Scaling.{scaled}

@@ -5,8 +5,8 @@ use lib.Ieee.{Float, binary32, fits}
 use lib.Ieee.Bits.{of_bits-fits}
 use lib.Ieee.Fits.{add-fits}
 use Rattle.refusal.specs.declared.Refusal.{Refusal}
-use Rattle.refusal.specs.declared.Verdict.{Verdict}
-use Rattle.refusal.specs.declared.Verdict.TheVariants.{Accepted, Refused}
+use Rattle.refusal.specs.Refusal.{Verdict}
+use Rattle.refusal.specs.Refusal.{Accepted, Refused}
 use Rattle.plan.specs.declared.Record.{Record}
 use Rattle.transform.specs.Transforms.{Slices, forward_of}
 use Rattle.power.specs.Power.{power_from}

@@ -2,7 +2,7 @@
 use Rattle.sequences.proofs.Basics.{◌≡◌, ap, ◌∙◌, ℕ, List, length}
 use lib.Ieee.{Float}
 use Rattle.refusal.specs.Refusal.{left}
-use Rattle.refusal.specs.declared.Verdict.{Verdict}
+use Rattle.refusal.specs.Refusal.{Verdict}
 use Rattle.refusal.proofs.Unique.{agree}
 use Rattle.plan.specs.declared.Record.{Record}
 use Rattle.transform.specs.Transforms.{Slices, forward_of}

@@ -4,8 +4,8 @@ use Rattle.std.specs.Float.{binary32}
 use Rattle.std.specs.Float.Ieee.{add, sub, mul, round}
 use Rattle.sequences.specs.Lists.{tabulate}
 use Rattle.refusal.specs.Refusal.{left}
-use Rattle.refusal.specs.declared.Verdict.{Verdict}
-use Rattle.refusal.specs.declared.Verdict.TheVariants.{Accepted, Refused}
+use Rattle.refusal.specs.Refusal.{Verdict}
+use Rattle.refusal.specs.Refusal.{Accepted, Refused}
 use Rattle.plan.specs.declared.Record.{Record}
 use Rattle.turn.specs.Calls.{part}
 use Rattle.turn.specs.Turns.{+0, one_half, turn_of, words_of}

@@ -1,8 +1,8 @@
 -- Laws of planning: the answer put together, and the verdict on a record. Assumes nothing.
 use Rattle.sequences.proofs.Basics.{◌≡◌, refl, ap, ◌∙◌, ℕ, ◌/◌, ◌≤◌, arith, List, length, take}
 use Rattle.refusal.specs.declared.Refusal.{Refusal}
-use Rattle.refusal.specs.declared.Verdict.{Verdict}
-use Rattle.refusal.specs.declared.Verdict.TheVariants.{Accepted, Refused}
+use Rattle.refusal.specs.Refusal.{Verdict}
+use Rattle.refusal.specs.Refusal.{Accepted, Refused}
 use Rattle.radices.specs.declared.Radices.{Radices}
 use Rattle.plan.specs.declared.Planned.{Planned}
 use Rattle.merging.specs.declared.inner.merging.Tally.{Tally}

@@ -3,7 +3,7 @@ use Rattle.sequences.proofs.Basics.{◌≡◌, refl, sym, ap, ◌∙◌, ℕ, ze
 use Rattle.sequences.proofs.Basics.{false≢true, List, [], ◌∷◌, eqb, length, get_or, take, drop, drop_of_length-le, replicate, length-take, take_at, drop-cons}
 use Rattle.sequences.proofs.Basics.{eqb-true, eq-eqb, ne_eqb, lt-ltb, le-leb, lt-leb, leb-true}
 use Rattle.refusal.proofs.Rows.{deciding, accepted}
-use Rattle.refusal.specs.declared.Verdict.TheVariants.{Accepted}
+use Rattle.refusal.specs.Refusal.{Accepted}
 use Rattle.radices.specs.Lists.{product, is_radix, index_of, first_bad, first_over, largest, padded, eq_list}
 use Rattle.sequences.specs.Lists.{first_that}
 use Rattle.halving.specs.Half.{half, halving, halved}

@@ -1,7 +1,7 @@
 -- What is true of every accepted list: what merging keeps, how many merges there are, what is left, and that the record depends on n alone.
 -- Assumes nothing.
 use Rattle.sequences.proofs.Basics.{◌≡◌, refl, sym, ap, ◌∙◌, ℕ, zero, suc, ◌+◌, ◌*◌, ◌/◌, ◌%◌, ◌^◌, ◌<◌, ◌≤◌, arith, true, cond, ◌⊎◌, List, eqb}
-use Rattle.refusal.specs.declared.Verdict.TheVariants.{Accepted}
+use Rattle.refusal.specs.Refusal.{Accepted}
 use Rattle.radices.specs.Lists.{product, count_of}
 use Rattle.halving.specs.Half.{half}
 use Rattle.merging.specs.Merging.{tally, applies, merge, sorted}

@@ -3,7 +3,7 @@ use Rattle.sequences.proofs.Basics.{◌≡◌, refl, sym, ap, ◌∙◌, ℕ, ar
 use Rattle.refusal.proofs.Unique.{agree}
 use Rattle.refusal.specs.declared.Refusal.{Refusal}
 use Rattle.refusal.specs.declared.Refusal.TheVariants.{NoRadix}
-use Rattle.refusal.specs.declared.Verdict.TheVariants.{Accepted, Refused}
+use Rattle.refusal.specs.Refusal.{Accepted, Refused}
 use Rattle.plan.specs.declared.Record.{Record}
 use Rattle.plan.specs.declared.Planned.{Planned}
 use Rattle.radices.specs.Lists.{is_radix, product, first_bad, index_of, first_over, count_of}

@@ -1,8 +1,8 @@
 -- What the report takes from planning, and the words of its radices. Assumes nothing.
 use Rattle.sequences.proofs.Basics.{◌≡◌, refl, sym, ap, ◌∙◌, ℕ, min, ◌≤◌, arith, dec_le, true, dite, List, length, take, take-length, take_all, zero, suc, ◌<◌}
 use Rattle.sequences.proofs.Basics.{[], ◌∷◌, map}
-use Rattle.refusal.specs.declared.Verdict.{Verdict}
-use Rattle.refusal.specs.declared.Verdict.TheVariants.{Accepted, Refused}
+use Rattle.refusal.specs.Refusal.{Verdict}
+use Rattle.refusal.specs.Refusal.{Accepted, Refused}
 use Rattle.plan.specs.Record.{plan_verdict, planned, planned_by, accepted_plan, refused_plan, is_planned}
 use Rattle.counts.specs.Counts.{record_verdict, counted, located}
 use Rattle.plan.specs.declared.Record.{Record}

@@ -1,8 +1,8 @@
 -- Laws of the power of bins: one bin more, which calls are accepted, and what they tell. Assumes nothing.
 use Rattle.sequences.proofs.Basics.{◌≡◌, sym, ap, ap₂, ◌∙◌, ℕ, ◌+◌, ◌*◌, ◌/◌, ◌%◌, ◌≤◌, ◌<◌, add-one, arith, List, length}
 use lib.Ieee.{Float, binary32, add}
-use Rattle.refusal.specs.declared.Verdict.{Verdict}
-use Rattle.refusal.specs.declared.Verdict.TheVariants.{Accepted}
+use Rattle.refusal.specs.Refusal.{Verdict}
+use Rattle.refusal.specs.Refusal.{Accepted}
 use Rattle.refusal.proofs.Rows.{deciding, accepted}
 use Rattle.floats.specs.Complexes.{cell}
 use Rattle.scan.specs.Scan.{first_unfit}

@@ -4,8 +4,8 @@ use Rattle.std.specs.Float.{binary32}
 use Rattle.std.specs.Float.Ieee.{add, mul}
 use Rattle.refusal.specs.Refusal.{◌⇒◌, verdict}
 use Rattle.refusal.specs.declared.Refusal.TheVariants.{Length, Number, Bins}
-use Rattle.refusal.specs.declared.Verdict.{Verdict}
-use Rattle.refusal.specs.declared.Verdict.TheVariants.{Accepted, Refused}
+use Rattle.refusal.specs.Refusal.{Verdict}
+use Rattle.refusal.specs.Refusal.{Accepted, Refused}
 use Rattle.turn.specs.Turns.{+0}
 use Rattle.floats.specs.Complexes.{cell}
 use Rattle.scan.specs.Scan.{ceiling, first_unfit}

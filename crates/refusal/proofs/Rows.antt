@@ -3,8 +3,8 @@ use Rattle.sequences.proofs.Basics.{◌≡◌, refl, ap, ◌∙◌, ℕ, ◌*◌
 use Rattle.sequences.proofs.Basics.{le-ltb, eqb-true, eqb-false, ltb-true, ltb-false, not-true, not-false}
 use Rattle.refusal.specs.Refusal.{Row, verdict_by, verdict, left, Settles}
 use Rattle.refusal.specs.declared.Refusal.{Refusal}
-use Rattle.refusal.specs.declared.Verdict.{Verdict}
-use Rattle.refusal.specs.declared.Verdict.TheVariants.{Accepted, Refused}
+use Rattle.refusal.specs.Refusal.{Verdict}
+use Rattle.refusal.specs.Refusal.{Accepted, Refused}
 
 -- ---- which row decides: `search deciding` goes down the rows, passes each by its test, and stops at the one that is given
 

@@ -2,7 +2,7 @@
 use Rattle.sequences.proofs.Basics.{◌≡◌, sym, ◌∙◌, ℕ}
 use Rattle.refusal.specs.Refusal.{Numbers, Places, NumbersIn, PlacesIn, Settles}
 use Rattle.refusal.specs.declared.Refusal.{Refusal}
-use Rattle.refusal.specs.declared.Verdict.{Verdict}
+use Rattle.refusal.specs.Refusal.{Verdict}
 
 -- two things that equal a third
 pub agree : {A : Type 0} {a r s : A} → r ≡ a → s ≡ a → r ≡ s

@@ -1,10 +1,18 @@
 -- The number and the place of each refusal, the verdict as the first test that fails, and what a call leaves under it. Assumes nothing.
-use Rattle.std.specs.Prelude.{ℕ, ◌≡◌, Bool, true, false, List, [], ◌∷◌}
+use Rattle.std.specs.Prelude.{ℕ, ◌≡◌, Bool, true, false, List, [], ◌∷◌, Result, Ok, Err}
 use Rattle.refusal.specs.declared.Refusal.{Refusal}
 use Rattle.refusal.specs.declared.Refusal.TheVariants.{Empty, NoRadix, TooLarge, Odd, NotPlanned, Width, NotHoused, Length, Number, Twiddle, Modulus}
 use Rattle.refusal.specs.declared.Refusal.TheVariants.{Base, Remainder, Bins, Stage, Wav}
-use Rattle.refusal.specs.declared.Verdict.{Verdict}
-use Rattle.refusal.specs.declared.Verdict.TheVariants.{Accepted, Refused}
+
+-- what a call answers of its arguments
+abbrev pub Verdict : Type 0
+Verdict = Result (Unit {0}) Refusal
+
+pattern abbrev pub Accepted : Verdict
+Accepted = Ok (record {})
+
+pattern abbrev pub Refused : Refusal → Verdict
+Refused why = Err why
 
 -- the row of the table
 abbrev pub number_of : Refusal → ℕ

@@ -4,7 +4,7 @@
 ghost use Rattle.refusal.specs.Refusal.{Numbers, Places, NumbersIn, PlacesIn};
 
 // Why a call is refused. A case holds its place where the table names one.
-#[derive(Clone, Copy)]
+#[derive(Clone, Copy, PartialEq, Eq)]
 pub enum Refusal {
     // 1: the list is empty.
     Empty,
@@ -40,12 +40,8 @@ pub enum Refusal {
     Wav(usize),
 }
 
-// What a call answers of its arguments.
-#[derive(Clone, Copy)]
-pub enum Verdict {
-    Accepted,
-    Refused(Refusal),
-}
+// What a call answers of its arguments: nothing but that they are accepted, or why it is refused.
+pub type Verdict = Result<(), Refusal>;
 
 impl Refusal {
     // The row of the table.
@@ -97,24 +93,22 @@ impl Refusal {
     }
 }
 
-impl Verdict {
-    // The refusal's number, and 0 for an accepted call.
-    pub fn number(self) -> u32
-        ensures { NumbersIn self result }
-    {
-        match self {
-            Verdict::Accepted => 0,
-            Verdict::Refused(why) => why.number(),
-        }
+// The number of a verdict's refusal, and 0 for an accepted call.
+pub fn number(verdict: Verdict) -> u32
+    ensures { NumbersIn verdict result }
+{
+    match verdict {
+        Ok(()) => 0,
+        Err(why) => why.number(),
     }
+}
 
-    // The refusal's place, and 0 for an accepted call.
-    pub fn place(self) -> usize
-        ensures { PlacesIn self result }
-    {
-        match self {
-            Verdict::Accepted => 0,
-            Verdict::Refused(why) => why.place(),
-        }
+// The place of a verdict's refusal, and 0 for an accepted call.
+pub fn place(verdict: Verdict) -> usize
+    ensures { PlacesIn verdict result }
+{
+    match verdict {
+        Ok(()) => 0,
+        Err(why) => why.place(),
     }
 }

@@ -1,7 +1,7 @@
 -- Wrong programs that the promises shut out, at h 6, m 7, w 3 and the samples 0, 1, 0, 0, 0, 0. Assumes nothing.
 use Rattle.sequences.proofs.Basics.{◌≡◌, refl, ℕ, arith, true, List, [], ◌∷◌, length, le_refl}
 use Rattle.sequences.specs.Lists.{first_that}
-use Rattle.refusal.specs.declared.Verdict.{Verdict}
+use Rattle.refusal.specs.Refusal.{Verdict}
 use Rattle.counts.specs.Counts.{stride, result_in}
 use Rattle.radices.specs.Lists.{product, padded, eq_list, count_of}
 use Rattle.merging.specs.Merging.{tally, sorted}

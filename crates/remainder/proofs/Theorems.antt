@@ -3,8 +3,8 @@
 -- both buffers what the calls, written alternately, leave there. The premise `Lent` asks for no more than the calls do. Assumes nothing.
 use Rattle.sequences.proofs.Basics.{◌≡◌, refl, sym, ap, ap₂, ◌∙◌, ℕ, zero, suc, ◌%◌, ◌^◌, ◌<◌, ◌≤◌, le_of_lt, le_refl, mod-eq_of_lt, arith, Bool, true, false}
 use Rattle.sequences.proofs.Basics.{List, eqb, eqb-true, length}
-use Rattle.refusal.specs.declared.Verdict.{Verdict}
-use Rattle.refusal.specs.declared.Verdict.TheVariants.{Accepted}
+use Rattle.refusal.specs.Refusal.{Verdict}
+use Rattle.refusal.specs.Refusal.{Accepted}
 use Rattle.refusal.proofs.Rows.{settled}
 use Rattle.counts.specs.Counts.{stride, result_in}
 use Rattle.plan.specs.declared.Record.{Record}

@@ -1,6 +1,6 @@
 -- Laws of the verdicts: what is rightly lent is accepted, and what an accepted call tells. Assumes nothing.
 use Rattle.sequences.proofs.Basics.{◌≡◌, ap, ℕ, ◌<◌, ◌≤◌, true, not, List, ltb, length, get_or, lt-ltb, ltb-true, not-false}
-use Rattle.refusal.specs.declared.Verdict.TheVariants.{Accepted}
+use Rattle.refusal.specs.Refusal.{Accepted}
 use Rattle.refusal.proofs.Rows.{deciding, accepted}
 use Rattle.sequences.proofs.First.{none_passes, each_fails}
 use Rattle.plan.specs.Record.{is_planned}

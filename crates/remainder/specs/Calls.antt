@@ -2,7 +2,7 @@
 use Rattle.std.specs.Prelude.{ℕ, zero, suc, ◌%◌, ◌^◌, ◌<◌, ◌≡◌, Bool, true, false, not, ◌||◌, List, [], ◌∷◌, eqb, ltb, length}
 use Rattle.refusal.specs.Refusal.{Row, ◌⇒◌, verdict, Settles}
 use Rattle.refusal.specs.declared.Refusal.TheVariants.{NotPlanned, Length, Modulus, Base, Remainder, Stage}
-use Rattle.refusal.specs.declared.Verdict.{Verdict}
+use Rattle.refusal.specs.Refusal.{Verdict}
 use Rattle.sequences.specs.Lists.{first_that}
 use Rattle.plan.specs.Record.{is_planned}
 use Rattle.plan.specs.declared.Record.{Record}

@@ -8,8 +8,8 @@ use Rattle.sequences.proofs.Basics.{pow_mono, eq-eqb, ne_eqb, le-leb, lt-leb, lt
 use Rattle.refusal.specs.Refusal.{Row, ◌⇒◌, verdict}
 use Rattle.refusal.specs.declared.Refusal.{Refusal}
 use Rattle.refusal.specs.declared.Refusal.TheVariants.{TooLarge}
-use Rattle.refusal.specs.declared.Verdict.{Verdict}
-use Rattle.refusal.specs.declared.Verdict.TheVariants.{Accepted, Refused}
+use Rattle.refusal.specs.Refusal.{Verdict}
+use Rattle.refusal.specs.Refusal.{Accepted, Refused}
 use Rattle.refusal.proofs.Rows.{accepted, refused_on, accepted_on}
 use Rattle.radices.specs.declared.Radices.{Radices}
 use Rattle.scaling.specs.declared.Scaled.{Scaled}

@@ -1,7 +1,7 @@
 -- What the parts of scaling ask for. Assumes nothing.
 use Rattle.std.specs.Prelude.{ℕ, ◌≤◌, ◌≡◌, List, length}
 use Rattle.refusal.specs.Refusal.{verdict}
-use Rattle.refusal.specs.declared.Verdict.TheVariants.{Accepted}
+use Rattle.refusal.specs.Refusal.{Accepted}
 use Rattle.scaling.specs.Scaling.{list_rows}
 
 -- two lists that refusals 2 and 3 leave, and a target that is not too large

@@ -2,8 +2,8 @@
 use Rattle.sequences.proofs.Basics.{◌≡◌, refl, sym, ap, ◌∙◌, ℕ, arith, Bool, true, false, List, [], ◌∷◌, eqb, get_or}
 use lib.Ieee.{Float, nan, inf, fin, of_bits, add}
 use Rattle.sequences.specs.Lists.{first_that, tabulate}
-use Rattle.refusal.specs.declared.Verdict.{Verdict}
-use Rattle.refusal.specs.declared.Verdict.TheVariants.{Accepted}
+use Rattle.refusal.specs.Refusal.{Verdict}
+use Rattle.refusal.specs.Refusal.{Accepted}
 use Rattle.refusal.proofs.Rows.{settled}
 use Rattle.counts.specs.Counts.{twiddle_start, end_count, result_in}
 use Rattle.radices.specs.Lists.{product, padded, eq_list, count_of}

@@ -5,8 +5,8 @@ use Rattle.sequences.proofs.Basics.{◌≡◌, sym, ap, ◌∙◌, ℕ, ◌-◌,
 use lib.Ieee.{Float}
 use Rattle.refusal.specs.Refusal.{left}
 use Rattle.refusal.specs.declared.Refusal.{Refusal}
-use Rattle.refusal.specs.declared.Verdict.{Verdict}
-use Rattle.refusal.specs.declared.Verdict.TheVariants.{Accepted, Refused}
+use Rattle.refusal.specs.Refusal.{Verdict}
+use Rattle.refusal.specs.Refusal.{Accepted, Refused}
 use Rattle.refusal.proofs.Rows.{deciding, settled}
 use Rattle.counts.specs.Counts.{result_in}
 use Rattle.plan.specs.Record.{is_planned}

@@ -2,8 +2,8 @@
 use Rattle.sequences.proofs.Basics.{◌≡◌, refl, sym, ap, ◌∙◌, ℕ, ◌+◌, ◌*◌, ◌≤◌, ◌<◌, arith, ℕ_discrete, Bool, true, not, List, ◌++◌, eqb, ltb, length}
 use Rattle.sequences.proofs.Basics.{length-append, ltb-false, eqb-true, eq-eqb, ne_eqb, not-true}
 use lib.Ieee.{Float}
-use Rattle.refusal.specs.declared.Verdict.{Verdict}
-use Rattle.refusal.specs.declared.Verdict.TheVariants.{Accepted}
+use Rattle.refusal.specs.Refusal.{Verdict}
+use Rattle.refusal.specs.Refusal.{Accepted}
 use Rattle.refusal.proofs.Rows.{accepted}
 use Rattle.counts.specs.Counts.{stage_twiddles, end_count}
 use Rattle.plan.specs.Record.{is_planned}

@@ -2,7 +2,7 @@
 use Rattle.std.specs.Prelude.{ℕ, ◌+◌, ◌*◌, Bool, not, List, [], ◌∷◌, ◌++◌, eqb, ltb, Float, length}
 use Rattle.refusal.specs.Refusal.{Row, ◌⇒◌, verdict, Settles}
 use Rattle.refusal.specs.declared.Refusal.TheVariants.{NotPlanned, Width, Length, Number, Twiddle}
-use Rattle.refusal.specs.declared.Verdict.{Verdict}
+use Rattle.refusal.specs.Refusal.{Verdict}
 use Rattle.counts.specs.Counts.{stage_twiddles, end_count}
 use Rattle.plan.specs.Record.{is_planned}
 use Rattle.plan.specs.declared.Record.{Record}

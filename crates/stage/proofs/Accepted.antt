@@ -3,7 +3,7 @@
 use Rattle.sequences.proofs.Basics.{◌≡◌, refl, sym, ap, subst, ◌∙◌, ℕ, zero, suc, ◌+◌, ◌-◌, ◌*◌, ◌/◌, ◌≤◌, ◌<◌, le_of_lt, arith, dec_le, true, List, length}
 use lib.Ieee.{Float}
 use Rattle.refusal.proofs.Rows.{deciding}
-use Rattle.refusal.specs.declared.Verdict.TheVariants.{Accepted}
+use Rattle.refusal.specs.Refusal.{Accepted}
 use Rattle.counts.specs.Counts.{radix, twiddle_count, twiddle_start, stage_twiddles}
 use Rattle.plan.specs.Record.{is_planned}
 use Rattle.plan.specs.declared.Record.{Record}

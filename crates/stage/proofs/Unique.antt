@@ -1,7 +1,7 @@
 -- Two outcomes that meet a promise are equal. Assumes nothing.
 use Rattle.sequences.proofs.Basics.{◌≡◌, ℕ, List}
 use lib.Ieee.{Float}
-use Rattle.refusal.specs.declared.Verdict.{Verdict}
+use Rattle.refusal.specs.Refusal.{Verdict}
 use Rattle.refusal.proofs.Unique.{Settles_one}
 use Rattle.plan.specs.declared.Record.{Record}
 use Rattle.stage.specs.Calls.{Stages}

@@ -1,8 +1,8 @@
 -- What an accepted call of a stage tells. Assumes nothing.
 use Rattle.sequences.proofs.Basics.{◌≡◌, sym, ◌∙◌, ℕ, ◌≤◌, List, length}
 use lib.Ieee.{Float}
-use Rattle.refusal.specs.declared.Verdict.{Verdict}
-use Rattle.refusal.specs.declared.Verdict.TheVariants.{Accepted}
+use Rattle.refusal.specs.Refusal.{Verdict}
+use Rattle.refusal.specs.Refusal.{Accepted}
 use Rattle.refusal.proofs.Rows.{accepted}
 use Rattle.plan.specs.declared.Record.{Record}
 use Rattle.scan.specs.Scan.{first_unfit}

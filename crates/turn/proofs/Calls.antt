@@ -1,7 +1,7 @@
 -- The answer of a single turn, refused and accepted. Assumes nothing.
 use Rattle.sequences.proofs.Basics.{◌≡◌, ◌∙◌, ℕ, ◌%◌, true, false}
 use Rattle.refusal.specs.declared.Refusal.TheVariants.{NotHoused}
-use Rattle.refusal.specs.declared.Verdict.TheVariants.{Accepted, Refused}
+use Rattle.refusal.specs.Refusal.{Accepted, Refused}
 use Rattle.turn.specs.declared.Turn.{Turn}
 use Rattle.turn.specs.declared.Turn.TheVariants.{General}
 use Rattle.turn.specs.Calls.{part, turn_verdict, turned, Turns}

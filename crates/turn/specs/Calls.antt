@@ -2,8 +2,8 @@
 use Rattle.std.specs.Prelude.{ℕ, ◌<◌, ◌≡◌, true, not, [], ◌∷◌}
 use Rattle.refusal.specs.Refusal.{◌⇒◌, verdict}
 use Rattle.refusal.specs.declared.Refusal.TheVariants.{NotHoused}
-use Rattle.refusal.specs.declared.Verdict.{Verdict}
-use Rattle.refusal.specs.declared.Verdict.TheVariants.{Accepted, Refused}
+use Rattle.refusal.specs.Refusal.{Verdict}
+use Rattle.refusal.specs.Refusal.{Accepted, Refused}
 use Rattle.radices.specs.Lists.{is_radix}
 use Rattle.schedule.specs.Stage.{Part}
 use Rattle.turn.specs.declared.Turn.{Turn}

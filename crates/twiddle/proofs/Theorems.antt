@@ -6,8 +6,8 @@ use Rattle.sequences.specs.Pairs.{At}
 use Rattle.sequences.proofs.Pairs.{told, at_same, pairs_at}
 use Rattle.refusal.specs.Refusal.{left}
 use Rattle.refusal.specs.declared.Refusal.{Refusal}
-use Rattle.refusal.specs.declared.Verdict.{Verdict}
-use Rattle.refusal.specs.declared.Verdict.TheVariants.{Accepted, Refused}
+use Rattle.refusal.specs.Refusal.{Verdict}
+use Rattle.refusal.specs.Refusal.{Accepted, Refused}
 use Rattle.refusal.proofs.Rows.{settled}
 use Rattle.counts.specs.Counts.{radix, stride, twiddle_start, end_count}
 use Rattle.plan.specs.declared.Record.{Record}

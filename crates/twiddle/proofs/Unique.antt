@@ -1,6 +1,6 @@
 -- Two outcomes that meet the promise are equal. Assumes nothing.
 use Rattle.sequences.proofs.Basics.{◌≡◌, ℕ}
-use Rattle.refusal.specs.declared.Verdict.{Verdict}
+use Rattle.refusal.specs.Refusal.{Verdict}
 use Rattle.refusal.proofs.Unique.{Settles_one}
 use Rattle.plan.specs.declared.Record.{Record}
 use Rattle.twiddle.specs.Calls.{Slices, Fills}

@@ -2,8 +2,8 @@
 use Rattle.sequences.proofs.Basics.{◌≡◌, sym, ◌∙◌, ℕ, ◌*◌, true, List, length}
 use lib.Ieee.{Float}
 use Rattle.refusal.specs.declared.Refusal.{Refusal}
-use Rattle.refusal.specs.declared.Verdict.{Verdict}
-use Rattle.refusal.specs.declared.Verdict.TheVariants.{Accepted, Refused}
+use Rattle.refusal.specs.Refusal.{Verdict}
+use Rattle.refusal.specs.Refusal.{Accepted, Refused}
 use Rattle.refusal.proofs.Rows.{accepted, settles_refused, settles_accepted}
 use Rattle.counts.specs.Counts.{stage_twiddles, end_count}
 use Rattle.plan.specs.Record.{is_planned}

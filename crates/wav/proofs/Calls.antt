@@ -4,8 +4,8 @@ use lib.Ieee.{Float}
 use Rattle.refusal.specs.Refusal.{left}
 use Rattle.refusal.specs.declared.Refusal.{Refusal}
 use Rattle.refusal.specs.declared.Refusal.TheVariants.{Length}
-use Rattle.refusal.specs.declared.Verdict.{Verdict}
-use Rattle.refusal.specs.declared.Verdict.TheVariants.{Accepted, Refused}
+use Rattle.refusal.specs.Refusal.{Verdict}
+use Rattle.refusal.specs.Refusal.{Accepted, Refused}
 use Rattle.refusal.proofs.Rows.{deciding, accepted}
 use Rattle.pcm.specs.Samples.{samples_at, first_unfit}
 use Rattle.chunks.specs.Chunks.{walk_of}

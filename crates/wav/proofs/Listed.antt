@@ -5,7 +5,7 @@ use lib.Ieee.{fin, odd}
 use lib.Count.{count_trailing_zeros}
 use Rattle.sequences.specs.Lists.{tabulate}
 use Rattle.refusal.specs.declared.Refusal.TheVariants.{Wav}
-use Rattle.refusal.specs.declared.Verdict.TheVariants.{Refused}
+use Rattle.refusal.specs.Refusal.{Refused}
 use Rattle.little.specs.Numbers.{number_at, ascii}
 use Rattle.pcm.specs.Samples.{sample_of, samples_at}
 use Rattle.chunks.specs.Chunks.{samples_from, begun, at_data, at_format, at_other, stepped, walked, walk_in, walk_of}

@@ -1,8 +1,8 @@
 -- A plain file: the 44 bytes, then the samples. Its fields one by one; the walk over it; that a file of its length is one; and its bytes. Assumes nothing.
 use Rattle.sequences.proofs.Basics.{◌≡◌, refl, sym, ap, ap₂, ◌∙◌, ℕ, suc, ◌+◌, ◌-◌, ◌*◌, ◌/◌, ◌≤◌, ◌<◌, lit≤, arith, List, [], ◌++◌, length, length-append}
 use Rattle.sequences.proofs.Basics.{drop}
-use Rattle.refusal.specs.declared.Verdict.{Verdict}
-use Rattle.refusal.specs.declared.Verdict.TheVariants.{Accepted}
+use Rattle.refusal.specs.Refusal.{Verdict}
+use Rattle.refusal.specs.Refusal.{Accepted}
 use Rattle.little.specs.Numbers.{number_at, Bytes, bytes_of}
 use Rattle.little.proofs.Numbers.{number_drop, bytes_number, number_bytes}
 use Rattle.fields.specs.Fields.{mark}

@@ -3,8 +3,8 @@ use Rattle.std.specs.Prelude.{ℕ, ◌+◌, ◌*◌, ◌≡◌, not, List, [], �
 use Rattle.refusal.specs.Refusal.{◌⇒◌, verdict, left, Settles}
 use Rattle.refusal.specs.declared.Refusal.{Refusal}
 use Rattle.refusal.specs.declared.Refusal.TheVariants.{Length, Number, Wav as NoWav}
-use Rattle.refusal.specs.declared.Verdict.{Verdict}
-use Rattle.refusal.specs.declared.Verdict.TheVariants.{Accepted, Refused}
+use Rattle.refusal.specs.Refusal.{Verdict}
+use Rattle.refusal.specs.Refusal.{Accepted, Refused}
 use Rattle.pcm.specs.Samples.{samples_at, first_unfit, sample_bytes}
 use Rattle.fields.specs.Fields.{no_rate}
 use Rattle.chunks.specs.Chunks.{walk_of}

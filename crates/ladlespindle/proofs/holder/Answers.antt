@@ -1,7 +1,7 @@
 -- `ladlespindle::holder` meets its contract. Assumes nothing.
 use Rattle.sequences.proofs.Basics.{sym, ap, ◌∙◌}
 use Rattle.refusal.specs.Refusal.{left}
-use Rattle.refusal.specs.declared.Verdict.{Verdict}
+use Rattle.refusal.specs.Refusal.{Verdict}
 use Rattle.counts.specs.Counts.{buffer_number, result_in}
 use Rattle.ladlespindle.proofs.holder.Goals as goal
 

@@ -1,6 +1,6 @@
 -- `plan_text::report` meets its promise: what is read, planned and printed is what the definition says. Assumes nothing.
 use Rattle.sequences.proofs.Basics.{sym, ap, ◌∙◌, ℕ, arith, take, length-take, length-take-le}
-use Rattle.refusal.specs.declared.Verdict.{Verdict}
+use Rattle.refusal.specs.Refusal.{Verdict}
 use Rattle.plan.specs.Record.{planned}
 use Rattle.tokens.specs.Tokens.{radices}
 use Rattle.plan_text.specs.Report.{lines_by, lines_of}

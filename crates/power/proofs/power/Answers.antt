@@ -1,8 +1,8 @@
 -- `power::power` meets its contract. Assumes nothing.
 use Rattle.sequences.proofs.Basics.{sym, ap, ◌∙◌, ◌+◌, ◌-◌, arith}
 use lib.Ieee.{Float}
-use Rattle.refusal.specs.declared.Verdict.{Verdict}
-use Rattle.refusal.specs.declared.Verdict.TheVariants.{Accepted}
+use Rattle.refusal.specs.Refusal.{Verdict}
+use Rattle.refusal.specs.Refusal.{Accepted}
 use Rattle.power.specs.Power.{power_from, summed}
 use Rattle.power.proofs.Sums.{bins_told}
 use Rattle.power.proofs.power.Goals as goal
