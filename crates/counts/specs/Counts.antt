@@ -1,16 +1,14 @@
 -- Counts of a plan: strides, twiddles of the stages and of the ends, and the buffer with the result. Assumes nothing.
-use Rattle.std.specs.Prelude.{ℕ, zero, suc, ◌+◌, ◌-◌, ◌*◌, ◌/◌, ◌%◌, ◌≡◌, Bool, true, false, cond, not, ◌||◌, List, [], ◌∷◌, eqb, get_or, take}
-use Rattle.refusal.specs.Refusal.{◌⇒◌, verdict}
+use Rattle.std.specs.Prelude.{ℕ, zero, suc, ◌+◌, ◌-◌, ◌*◌, ◌/◌, ◌%◌, ◌≡◌, Bool, true, false, cond, not, ◌||◌, List, [], ◌∷◌, eqb, get_or, take, Result}
+use Rattle.refusal.specs.Refusal.{◌⇒◌, verdict, granted}
+use Rattle.refusal.specs.declared.Refusal.{Refusal}
 use Rattle.refusal.specs.declared.Refusal.TheVariants.{NotPlanned}
 use Rattle.refusal.specs.Refusal.{Verdict}
-use Rattle.refusal.specs.Refusal.{Accepted, Refused}
 use Rattle.radices.specs.Lists.{product}
 use Rattle.plan.specs.Record.{is_planned}
 use Rattle.plan.specs.declared.Record.{Record}
 use Rattle.counts.specs.declared.Buffer.{Buffer}
 use Rattle.counts.specs.declared.Buffer.TheVariants.{Data, Scratchpad}
-use Rattle.counts.specs.declared.Counted.{Counted}
-use Rattle.counts.specs.declared.Located.{Located}
 
 -- the radix of stage j, 1 past the end of the list
 unfoldable pub radix : List ℕ → ℕ → ℕ
@@ -59,24 +57,14 @@ pub record NumbersBuffer (b : Buffer) (r : ℕ) : Type 0 where
 unfoldable pub record_verdict : Record → Verdict
 record_verdict p = verdict (not (is_planned p) ⇒ NotPlanned 0 ∷ [])
 
--- a count, or 0 beside the refusal
-abbrev pub counted : Verdict → ℕ → Counted
-counted Accepted k = record { verdict = Accepted; count = k }
-counted (Refused why) k = record { verdict = Refused why; count = 0 }
-
--- a buffer, or number 0 beside the refusal
-abbrev pub located : Verdict → Buffer → Located
-located Accepted b = record { verdict = Accepted; buffer = b }
-located (Refused why) b = record { verdict = Refused why; buffer = Data }
-
 -- what `stage_twiddles` promises of its answer
-pub record CountsStage (p : Record) (r : Counted) : Type 0 where
-  pub answer : r ≡ counted (record_verdict p) (stage_twiddles p)
+pub record CountsStage (p : Record) (r : Result ℕ Refusal) : Type 0 where
+  pub answer : r ≡ granted (record_verdict p) (stage_twiddles p)
 
 -- what `end_twiddles` promises of its answer
-pub record CountsEnd (p : Record) (r : Counted) : Type 0 where
-  pub answer : r ≡ counted (record_verdict p) (end_count p.n)
+pub record CountsEnd (p : Record) (r : Result ℕ Refusal) : Type 0 where
+  pub answer : r ≡ granted (record_verdict p) (end_count p.n)
 
 -- what `result` promises of its answer
-pub record Locates (p : Record) (r : Located) : Type 0 where
-  pub answer : r ≡ located (record_verdict p) (result_in p.count)
+pub record Locates (p : Record) (r : Result Buffer Refusal) : Type 0 where
+  pub answer : r ≡ granted (record_verdict p) (result_in p.count)

@@ -8,27 +8,13 @@ ghost use Rattle.counts.specs.Counts.{NumbersBuffer, CountsStage, CountsEnd, Loc
 use inner::stages::{end_count, result_in, twiddle_start};
 use plan::Record;
 use plan::inner::records::is_planned;
-use refusal::{Refusal, Verdict};
-
-// What a count answers.
-#[derive(Clone, Copy)]
-pub struct Counted {
-    pub verdict: Verdict,
-    pub count: usize,
-}
+use refusal::Refusal;
 
 // One of the two buffers of a run.
-#[derive(Clone, Copy)]
+#[derive(Clone, Copy, PartialEq, Eq)]
 pub enum Buffer {
     Data,
     Scratchpad,
-}
-
-// Where the result of a run is.
-#[derive(Clone, Copy)]
-pub struct Located {
-    pub verdict: Verdict,
-    pub buffer: Buffer,
 }
 
 impl Buffer {
@@ -44,49 +30,31 @@ impl Buffer {
 }
 
 // How many twiddles the stages of a plan have together.
-pub fn stage_twiddles(plan: Record) -> Counted
+pub fn stage_twiddles(plan: Record) -> Result<usize, Refusal>
     ensures { CountsStage plan result }
 {
     if !is_planned(plan) {
-        return Counted {
-            verdict: Verdict::Refused(Refusal::NotPlanned(0)),
-            count: 0,
-        };
+        return Err(Refusal::NotPlanned(0));
     }
-    Counted {
-        verdict: Verdict::Accepted,
-        count: twiddle_start(plan, plan.count),
-    }
+    Ok(twiddle_start(plan, plan.count))
 }
 
 // How many end twiddles a plan has.
-pub fn end_twiddles(plan: Record) -> Counted
+pub fn end_twiddles(plan: Record) -> Result<usize, Refusal>
     ensures { CountsEnd plan result }
 {
     if !is_planned(plan) {
-        return Counted {
-            verdict: Verdict::Refused(Refusal::NotPlanned(0)),
-            count: 0,
-        };
+        return Err(Refusal::NotPlanned(0));
     }
-    Counted {
-        verdict: Verdict::Accepted,
-        count: end_count(plan.n),
-    }
+    Ok(end_count(plan.n))
 }
 
 // Which buffer holds the result of a run of a plan.
-pub fn result(plan: Record) -> Located
+pub fn result(plan: Record) -> Result<Buffer, Refusal>
     ensures { Locates plan result }
 {
     if !is_planned(plan) {
-        return Located {
-            verdict: Verdict::Refused(Refusal::NotPlanned(0)),
-            buffer: Buffer::Data,
-        };
+        return Err(Refusal::NotPlanned(0));
     }
-    Located {
-        verdict: Verdict::Accepted,
-        buffer: result_in(plan.count),
-    }
+    Ok(result_in(plan.count))
 }

@@ -62,18 +62,11 @@ fn lent_band(
 ) -> Verdict
     ensures { result ≡ hear_verdict plan width input.now output scratch stage.now end.now lo hi }
 {
-    match lent_samples(plan, width, input, output, scratch, stage, end) {
-        Verdict::Accepted => {
-            if hi < lo {
-                return Verdict::Refused(Refusal::Bins);
-            }
-            if hi > plan.half {
-                return Verdict::Refused(Refusal::Bins);
-            }
-            Verdict::Accepted
-        }
-        Verdict::Refused(why) => Verdict::Refused(why),
+    lent_samples(plan, width, input, output, scratch, stage, end)?;
+    if hi < lo || hi > plan.half {
+        return Err(Refusal::Bins);
     }
+    Ok(())
 }
 
 // The spectrum of n samples, the power of its bins lo to hi, and whether that is below the threshold.
@@ -102,7 +95,7 @@ pub fn hear(
         lo,
         hi,
     ) {
-        Verdict::Accepted => {
+        Ok(()) => {
             forward(
                 plan,
                 width,
@@ -114,13 +107,13 @@ pub fn hear(
             );
             let power = sum(output, lo, hi + 1 - lo);
             Heard {
-                verdict: Verdict::Accepted,
+                verdict: Ok(()),
                 power: power,
                 decision: decide(power, threshold),
             }
         }
-        Verdict::Refused(why) => Heard {
-            verdict: Verdict::Refused(why),
+        Err(why) => Heard {
+            verdict: Err(why),
             power: 0.0,
             decision: Decision::Fanning,
         },

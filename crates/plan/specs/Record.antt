@@ -1,10 +1,10 @@
 -- Planning: the verdict on a list, the record and the merges beside it, and which records planning gives. Assumes nothing.
-use Rattle.std.specs.Prelude.{ℕ, ◌*◌, ◌/◌, ◌%◌, ◌+◌, ◌≡◌, ◌↔◌, Bool, true, ◌&&◌, List, [], ◌∷◌, leb, ltb, eqb, length, take, replicate}
-use Rattle.refusal.specs.Refusal.{◌⇒◌, verdict}
+use Rattle.std.specs.Prelude.{ℕ, ◌*◌, ◌/◌, ◌%◌, ◌+◌, ◌≡◌, ◌↔◌, Bool, true, ◌&&◌, List, [], ◌∷◌, leb, ltb, eqb, length, take, Result}
+use Rattle.refusal.specs.Refusal.{◌⇒◌, verdict, granted}
 use Rattle.refusal.specs.declared.Refusal.{Refusal}
 use Rattle.refusal.specs.declared.Refusal.TheVariants.{Empty, NoRadix, TooLarge, Odd}
 use Rattle.refusal.specs.Refusal.{Verdict}
-use Rattle.refusal.specs.Refusal.{Accepted, Refused}
+use Rattle.refusal.specs.Refusal.{Accepted}
 use Rattle.plan.specs.declared.Record.{Record}
 use Rattle.merging.specs.declared.Merges.{Merges}
 use Rattle.plan.specs.declared.Planned.{Planned}
@@ -39,29 +39,15 @@ record_of xs =
       radices = padded (factors xs);
     }
 
--- every number 0
-abbrev pub no_record : Record
-no_record = record { n = 0; half = 0; count = 0; radices = replicate 13 0 }
-
-abbrev pub no_merges : Merges
-no_merges = record { count = 0; letters = replicate 13 0 }
-
-unfoldable pub refused_plan : Refusal → Planned
-refused_plan why = record { verdict = Refused why; plan = no_record; merges = no_merges }
-
 unfoldable pub accepted_plan : List ℕ → Planned
-accepted_plan xs = record { verdict = Accepted; plan = record_of xs; merges = marked (letters (tally (half xs))) }
-
-abbrev pub planned_by : Verdict → List ℕ → Planned
-planned_by Accepted xs = accepted_plan xs
-planned_by (Refused why) xs = refused_plan why
+accepted_plan xs = record { plan = record_of xs; merges = marked (letters (tally (half xs))) }
 
 -- what planning a list answers
-unfoldable pub planned : List ℕ → Planned
-planned xs = planned_by (plan_verdict xs) xs
+unfoldable pub planned : List ℕ → Result Planned Refusal
+planned xs = granted (plan_verdict xs) (accepted_plan xs)
 
 -- what `plan` promises of its answer
-pub record Plans (list : List ℕ) (r : Planned) : Type 0 where
+pub record Plans (list : List ℕ) (r : Result Planned Refusal) : Type 0 where
   pub answer : r ≡ planned list
 
 -- some list plans to this record

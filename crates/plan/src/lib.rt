@@ -4,15 +4,15 @@
 pub mod inner;
 
 ghost use Rattle.std.specs.Prelude.{◌≡◌};
-ghost use Rattle.refusal.specs.declared.Verdict.TheVariants.{Accepted};
-ghost use Rattle.plan.specs.Record.{plan_verdict, refused_plan, accepted_plan, Plans, Accepts};
+ghost use Rattle.refusal.specs.Refusal.{Accepted};
+ghost use Rattle.plan.specs.Record.{plan_verdict, accepted_plan, Plans, Accepts};
 ghost use Rattle.radices.specs.Lists.{product};
 
 use halving::inner::halving::half_list;
 use merging::Merges;
 use merging::inner::merging::{ascending, counts_of, merge_all, size};
 use radices::inner::lists::{first_bad, running_product};
-use refusal::{Refusal, Verdict};
+use refusal::Refusal;
 
 // A plan: the length, its half, and the radices of the stages in ascending order, unused entries 0.
 #[repr(C)]
@@ -24,35 +24,34 @@ pub struct Record {
     pub radices: [u8; 13],
 }
 
-// What planning answers.
+// What planning an accepted list answers: the plan, and the merges that led to it.
 #[derive(Clone, Copy)]
 pub struct Planned {
-    pub verdict: Verdict,
     pub plan: Record,
     pub merges: Merges,
 }
 
 // The plan of a list of radices, or the refusal.
-pub fn plan(list: &[u8]) -> Planned
+pub fn plan(list: &[u8]) -> Result<Planned, Refusal>
     ensures { Plans list.now result }
 {
-    if list.len() == 0 {
-        return refused(Refusal::Empty);
+    if list.is_empty() {
+        return Err(Refusal::Empty);
     }
     let bad = first_bad(list);
     if bad < list.len() {
-        return refused(Refusal::NoRadix(bad));
+        return Err(Refusal::NoRadix(bad));
     }
     let run = running_product(list);
     let over = run.at;
     if over < list.len() {
-        return refused(Refusal::TooLarge(over));
+        return Err(Refusal::TooLarge(over));
     }
     let n = run.product;
     if n % 2 == 1 {
-        return refused(Refusal::Odd);
+        return Err(Refusal::Odd);
     }
-    accepted(list, n)
+    Ok(accepted(list, n))
 }
 
 // Whether some list plans to this record.
@@ -60,25 +59,6 @@ pub fn accepts(plan: Record) -> bool
     ensures { Accepts plan result }
 {
     inner::records::is_planned(plan)
-}
-
-// The answer of planning for a refused list.
-fn refused(why: Refusal) -> Planned
-    ensures { result ≡ refused_plan why }
-{
-    Planned {
-        verdict: Verdict::Refused(why),
-        plan: Record {
-            n: 0,
-            half: 0,
-            count: 0,
-            radices: [0u8; 13],
-        },
-        merges: Merges {
-            count: 0,
-            letters: [0u8; 13],
-        },
-    }
 }
 
 // The answer of planning for an accepted list of product n.
@@ -93,7 +73,6 @@ fn accepted(list: &[u8], n: usize) -> Planned
     let tally = merged.tally;
     let merges = merged.merges;
     Planned {
-        verdict: Verdict::Accepted,
         plan: Record {
             n,
             half: n / 2,

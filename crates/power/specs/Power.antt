@@ -1,16 +1,15 @@
 -- The power of bins: the sum, which calls are refused, and what the call promises. Assumes nothing.
-use Rattle.std.specs.Prelude.{ℕ, zero, suc, ◌+◌, ◌-◌, ◌/◌, ◌%◌, ◌≡◌, not, ◌||◌, List, [], ◌∷◌, eqb, ltb, Float, length}
+use Rattle.std.specs.Prelude.{ℕ, zero, suc, ◌+◌, ◌-◌, ◌/◌, ◌%◌, ◌≡◌, not, ◌||◌, List, [], ◌∷◌, eqb, ltb, Float, length, Result}
 use Rattle.std.specs.Float.{binary32}
 use Rattle.std.specs.Float.Ieee.{add, mul}
-use Rattle.refusal.specs.Refusal.{◌⇒◌, verdict}
+use Rattle.refusal.specs.Refusal.{◌⇒◌, verdict, granted}
+use Rattle.refusal.specs.declared.Refusal.{Refusal}
 use Rattle.refusal.specs.declared.Refusal.TheVariants.{Length, Number, Bins}
 use Rattle.refusal.specs.Refusal.{Verdict}
-use Rattle.refusal.specs.Refusal.{Accepted, Refused}
 use Rattle.turn.specs.Turns.{+0}
 use Rattle.floats.specs.Complexes.{cell}
 use Rattle.scan.specs.Scan.{ceiling, first_unfit}
 use Rattle.floats.specs.declared.complex.Complex.{Complex}
-use Rattle.power.specs.declared.Summed.{Summed}
 
 -- of one bin
 abbrev pub power_of : Complex → Float
@@ -30,11 +29,6 @@ power_verdict xs lo hi =
     ∷ ltb (first_unfit ceiling xs) (length xs) ⇒ Number (first_unfit ceiling xs)
     ∷ [])
 
--- the sum, or +0 beside the refusal
-abbrev pub summed : Verdict → Float → Summed
-summed Accepted x = record { verdict = Accepted; power = x }
-summed (Refused why) x = record { verdict = Refused why; power = +0 }
-
 -- what `power` promises of its answer: the sum over bins lo to hi
-pub record Powers (spectrum : List Float) (lo hi : ℕ) (r : Summed) : Type 0 where
-  pub answer : r ≡ summed (power_verdict spectrum lo hi) (power_from spectrum lo (hi + 1 - lo))
+pub record Powers (spectrum : List Float) (lo hi : ℕ) (r : Result Float Refusal) : Type 0 where
+  pub answer : r ≡ granted (power_verdict spectrum lo hi) (power_from spectrum lo (hi + 1 - lo))

@@ -95,6 +95,11 @@ abbrev pub verdict : List Row → Verdict
 verdict [] = Accepted
 verdict (row ∷ rows) = verdict_by row.given row.why (verdict rows)
 
+-- the answer of a call that answers more than its verdict: a value where it is accepted, else the refusal
+abbrev pub granted : {A : Type 0} → Verdict → A → Result A Refusal
+granted Accepted a = Ok a
+granted (Refused why) a = Err why
+
 -- what an accepted call makes, and what was lent where it is refused
 abbrev pub left {ℓ} : {A : Type ℓ} → Verdict → A → A → A
 left Accepted made lent = made

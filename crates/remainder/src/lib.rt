@@ -24,18 +24,14 @@ pub fn stage(
     ensures { Stages plan number m w input.now other.old result other.new }
 {
     if !is_planned(plan) {
-        return Verdict::Refused(Refusal::NotPlanned(0));
+        return Err(Refusal::NotPlanned(0));
     }
     if number >= plan.count {
-        return Verdict::Refused(Refusal::Stage);
+        return Err(Refusal::Stage);
     }
-    match lent(plan.half, m, w, input, other.len()) {
-        Verdict::Accepted => {
-            work(plan, number, m as u64, w as u64, input, other);
-            Verdict::Accepted
-        }
-        Verdict::Refused(why) => Verdict::Refused(why),
-    }
+    lent(plan.half, m, w, input, other.len())?;
+    work(plan, number, m as u64, w as u64, input, other);
+    Ok(())
 }
 
 // A run of a plan in remainders modulo m: the stages in turn from Data to the scratchpad and back, a single radix copied back.
@@ -43,13 +39,9 @@ pub fn run(plan: Record, m: u32, w: u32, data: &mut [u32], scratch: &mut [u32]) 
     ensures { Runs plan m w («data».old, scratch.old) result («data».new, scratch.new) }
 {
     if !is_planned(plan) {
-        return Verdict::Refused(Refusal::NotPlanned(0));
+        return Err(Refusal::NotPlanned(0));
     }
-    match lent(plan.half, m, w, data, scratch.len()) {
-        Verdict::Accepted => {
-            all(plan, m as u64, w as u64, data, scratch);
-            Verdict::Accepted
-        }
-        Verdict::Refused(why) => Verdict::Refused(why),
-    }
+    lent(plan.half, m, w, data, scratch.len())?;
+    all(plan, m as u64, w as u64, data, scratch);
+    Ok(())
 }

@@ -25,7 +25,7 @@ pub fn forward(
 {
     let is_input = input.len() == plan.n;
     let is_output = is_bins(output.len(), plan.half);
-    match lent(
+    lent(
         plan,
         width,
         is_input,
@@ -35,21 +35,17 @@ pub fn forward(
         input,
         stage_twiddles,
         end_twiddles,
-    ) {
-        Verdict::Accepted => {
-            directions::forward(
-                plan,
-                width,
-                input,
-                output,
-                scratch,
-                stage_twiddles,
-                end_twiddles,
-            );
-            Verdict::Accepted
-        }
-        Verdict::Refused(why) => Verdict::Refused(why),
-    }
+    )?;
+    directions::forward(
+        plan,
+        width,
+        input,
+        output,
+        scratch,
+        stage_twiddles,
+        end_twiddles,
+    );
+    Ok(())
 }
 
 // The n samples of a spectrum, times n, and +0 beyond.
@@ -66,7 +62,7 @@ pub fn inverse(
 {
     let is_input = is_bins(input.len(), plan.half);
     let is_output = !(output.len() < plan.n);
-    match lent(
+    lent(
         plan,
         width,
         is_input,
@@ -76,19 +72,15 @@ pub fn inverse(
         input,
         stage_twiddles,
         end_twiddles,
-    ) {
-        Verdict::Accepted => {
-            directions::inverse(
-                plan,
-                width,
-                input,
-                output,
-                scratch,
-                stage_twiddles,
-                end_twiddles,
-            );
-            Verdict::Accepted
-        }
-        Verdict::Refused(why) => Verdict::Refused(why),
-    }
+    )?;
+    directions::inverse(
+        plan,
+        width,
+        input,
+        output,
+        scratch,
+        stage_twiddles,
+        end_twiddles,
+    );
+    Ok(())
 }

@@ -21,11 +21,7 @@ pub fn stage(
 ) -> Verdict
     ensures { Stages plan number width input.now output.old twiddles.now result output.new }
 {
-    match lent(plan, number, width, input, output.len(), twiddles) {
-        Verdict::Accepted => {
-            work(plan, number, width, input, output, twiddles);
-            Verdict::Accepted
-        }
-        Verdict::Refused(why) => Verdict::Refused(why),
-    }
+    lent(plan, number, width, input, output.len(), twiddles)?;
+    work(plan, number, width, input, output, twiddles);
+    Ok(())
 }

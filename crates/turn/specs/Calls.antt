@@ -1,15 +1,13 @@
 -- A single turn: when it is refused, and what the call promises; and what the parts inside ask for. Assumes nothing.
-use Rattle.std.specs.Prelude.{ℕ, ◌<◌, ◌≡◌, true, not, [], ◌∷◌}
-use Rattle.refusal.specs.Refusal.{◌⇒◌, verdict}
+use Rattle.std.specs.Prelude.{ℕ, ◌<◌, ◌≡◌, true, not, [], ◌∷◌, Result}
+use Rattle.refusal.specs.Refusal.{◌⇒◌, verdict, granted}
+use Rattle.refusal.specs.declared.Refusal.{Refusal}
 use Rattle.refusal.specs.declared.Refusal.TheVariants.{NotHoused}
 use Rattle.refusal.specs.Refusal.{Verdict}
-use Rattle.refusal.specs.Refusal.{Accepted, Refused}
 use Rattle.radices.specs.Lists.{is_radix}
 use Rattle.schedule.specs.Stage.{Part}
 use Rattle.turn.specs.declared.Turn.{Turn}
-use Rattle.turn.specs.declared.Turn.TheVariants.{General}
-use Rattle.turn.specs.declared.Turned.{Turned}
-use Rattle.turn.specs.Turns.{+0, housed, turn_of}
+use Rattle.turn.specs.Turns.{housed, turn_of}
 
 -- t of L parts of a circle
 abbrev pub part : (t L : ℕ) → Part
@@ -19,17 +17,12 @@ part t L = record { t = t; L = L }
 unfoldable pub turn_verdict : (L : ℕ) → Verdict
 turn_verdict L = verdict (not (housed L) ⇒ NotHoused ∷ [])
 
--- the turn of an accepted call; of a refused one, two numbers that are 0
-abbrev pub given : Verdict → Turn → Turn
-given Accepted turn = turn
-given (Refused why) turn = General +0 +0
-
 -- the answer to t and L
-unfoldable pub turned : (t L : ℕ) → Turned
-turned t L = record { verdict = turn_verdict L; turn = given (turn_verdict L) (turn_of (part t L)) }
+unfoldable pub turned : (t L : ℕ) → Result Turn Refusal
+turned t L = granted (turn_verdict L) (turn_of (part t L))
 
 -- what `turn_of` promises of its answer
-pub record Turns (t L : ℕ) (r : Turned) : Type 0 where
+pub record Turns (t L : ℕ) (r : Result Turn Refusal) : Type 0 where
   pub answer : r ≡ turned t L
 
 -- what a lookup asks of t and L

@@ -7,7 +7,7 @@ ghost use Rattle.turn.specs.Calls.{Turns};
 
 use house::inner::table::{cosines, sines};
 use inner::lookup::{is_housed, looked};
-use refusal::{Refusal, Verdict};
+use refusal::Refusal;
 
 // Whole quarters of a circle carry no numbers, any other turn its two.
 #[derive(Clone, Copy)]
@@ -19,27 +19,14 @@ pub enum Turn {
     General(f32, f32),
 }
 
-// A turn, or the refusal of it with two numbers beside it that are 0.
-#[derive(Clone, Copy)]
-pub struct Turned {
-    pub verdict: Verdict,
-    pub turn: Turn,
-}
-
-// The turn by t of l parts of a circle.
-pub fn turn_of(t: u32, l: u32) -> Turned
+// The turn by t of l parts of a circle, or the refusal.
+pub fn turn_of(t: u32, l: u32) -> Result<Turn, Refusal>
     ensures { Turns t l result }
 {
     if !is_housed(l as usize) {
-        return Turned {
-            verdict: Verdict::Refused(Refusal::NotHoused),
-            turn: Turn::General(0.0, 0.0),
-        };
+        return Err(Refusal::NotHoused);
     }
     let c = cosines();
     let s = sines();
-    Turned {
-        verdict: Verdict::Accepted,
-        turn: looked(&c, &s, (t % l) as usize, l as usize),
-    }
+    Ok(looked(&c, &s, (t % l) as usize, l as usize))
 }

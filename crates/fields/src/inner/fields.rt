@@ -21,24 +21,24 @@ pub fn head(window: &[u8], total: usize) -> Verdict
     ensures { result ≡ verdict (head_rows window.now 0 total total) }
 {
     if total < 4 {
-        return Verdict::Refused(Refusal::Wav(total));
+        return Err(Refusal::Wav(total));
     }
     if four(window, 0) != RIFF {
-        return Verdict::Refused(Refusal::Wav(0));
+        return Err(Refusal::Wav(0));
     }
     if total < 8 {
-        return Verdict::Refused(Refusal::Wav(total));
+        return Err(Refusal::Wav(total));
     }
     if four(window, 4) != total - 8 {
-        return Verdict::Refused(Refusal::Wav(4));
+        return Err(Refusal::Wav(4));
     }
     if total < 12 {
-        return Verdict::Refused(Refusal::Wav(total));
+        return Err(Refusal::Wav(total));
     }
     if four(window, 8) != WAVE {
-        return Verdict::Refused(Refusal::Wav(8));
+        return Err(Refusal::Wav(8));
     }
-    Verdict::Accepted
+    Ok(())
 }
 
 // The verdict on the kind of a format.
@@ -48,24 +48,24 @@ fn kind(window: &[u8], at: usize, total: usize) -> Verdict
 {
     let left = total - at;
     if left < 8 {
-        return Verdict::Refused(Refusal::Wav(total));
+        return Err(Refusal::Wav(total));
     }
     if four(window, 4) != 16 {
-        return Verdict::Refused(Refusal::Wav(at + 4));
+        return Err(Refusal::Wav(at + 4));
     }
     if left < 10 {
-        return Verdict::Refused(Refusal::Wav(total));
+        return Err(Refusal::Wav(total));
     }
     if two(window, 8) != 1 {
-        return Verdict::Refused(Refusal::Wav(at + 8));
+        return Err(Refusal::Wav(at + 8));
     }
     if left < 12 {
-        return Verdict::Refused(Refusal::Wav(total));
+        return Err(Refusal::Wav(total));
     }
     if two(window, 10) != 1 {
-        return Verdict::Refused(Refusal::Wav(at + 10));
+        return Err(Refusal::Wav(at + 10));
     }
-    Verdict::Accepted
+    Ok(())
 }
 
 // The verdict on the rate of a format, and what follows from it.
@@ -75,34 +75,34 @@ fn rate(window: &[u8], at: usize, total: usize) -> Verdict
 {
     let left = total - at;
     if left < 16 {
-        return Verdict::Refused(Refusal::Wav(total));
+        return Err(Refusal::Wav(total));
     }
     let rate = four(window, 12);
     if rate == 0 {
-        return Verdict::Refused(Refusal::Wav(at + 12));
+        return Err(Refusal::Wav(at + 12));
     }
     if rate > FASTEST {
-        return Verdict::Refused(Refusal::Wav(at + 12));
+        return Err(Refusal::Wav(at + 12));
     }
     if left < 20 {
-        return Verdict::Refused(Refusal::Wav(total));
+        return Err(Refusal::Wav(total));
     }
     if four(window, 16) != 2 * rate {
-        return Verdict::Refused(Refusal::Wav(at + 16));
+        return Err(Refusal::Wav(at + 16));
     }
     if left < 22 {
-        return Verdict::Refused(Refusal::Wav(total));
+        return Err(Refusal::Wav(total));
     }
     if two(window, 20) != 2 {
-        return Verdict::Refused(Refusal::Wav(at + 20));
+        return Err(Refusal::Wav(at + 20));
     }
     if left < 24 {
-        return Verdict::Refused(Refusal::Wav(total));
+        return Err(Refusal::Wav(total));
     }
     if two(window, 22) != 16 {
-        return Verdict::Refused(Refusal::Wav(at + 22));
+        return Err(Refusal::Wav(at + 22));
     }
-    Verdict::Accepted
+    Ok(())
 }
 
 // The verdict on a format.
@@ -110,10 +110,8 @@ pub fn format(window: &[u8], at: usize, total: usize) -> Verdict
     requires { Shows window.now at total 4 }
     ensures { result ≡ verdict (format_rows window.now at (total - at) total) }
 {
-    match kind(window, at, total) {
-        Verdict::Accepted => rate(window, at, total),
-        Verdict::Refused(why) => Verdict::Refused(why),
-    }
+    kind(window, at, total)?;
+    rate(window, at, total)
 }
 
 // The verdict on a chunk of samples, where the format before it had this rate.
@@ -122,20 +120,20 @@ pub fn data(window: &[u8], at: usize, rate: u32, total: usize) -> Verdict
     ensures { result ≡ verdict (data_rows window.now at (total - at) total rate) }
 {
     if rate == 0 {
-        return Verdict::Refused(Refusal::Wav(at));
+        return Err(Refusal::Wav(at));
     }
     let left = total - at;
     if left < 8 {
-        return Verdict::Refused(Refusal::Wav(total));
+        return Err(Refusal::Wav(total));
     }
     let size = four(window, 4);
     if size % 2 != 0 {
-        return Verdict::Refused(Refusal::Wav(at + 4));
+        return Err(Refusal::Wav(at + 4));
     }
     if left - 8 < size {
-        return Verdict::Refused(Refusal::Wav(total));
+        return Err(Refusal::Wav(total));
     }
-    Verdict::Accepted
+    Ok(())
 }
 
 // The verdict on any other chunk.
@@ -145,11 +143,11 @@ pub fn other(window: &[u8], at: usize, total: usize) -> Verdict
 {
     let left = total - at;
     if left < 8 {
-        return Verdict::Refused(Refusal::Wav(total));
+        return Err(Refusal::Wav(total));
     }
     let size = four(window, 4);
     if left - 8 < size + size % 2 {
-        return Verdict::Refused(Refusal::Wav(total));
+        return Err(Refusal::Wav(total));
     }
-    Verdict::Accepted
+    Ok(())
 }

@@ -39,17 +39,17 @@ pub fn listen(
     );
     let verdict = heard.verdict;
     match verdict {
-        Verdict::Accepted => {
+        Ok(()) => {
             let decision = heard.decision;
             Block {
-                verdict: Verdict::Accepted,
+                verdict: Ok(()),
                 band: heard.power,
                 outside: beside(spectrum, lo, hi, plan.half),
                 decision,
             }
         }
-        Verdict::Refused(why) => Block {
-            verdict: Verdict::Refused(why),
+        Err(why) => Block {
+            verdict: Err(why),
             band: 0.0,
             outside: 0.0,
             decision: Decision::Fanning,

@@ -11,23 +11,23 @@ pub fn lent_bins(spectrum: &[f32], lo: usize, hi: usize) -> Verdict
 {
     let words = spectrum.len();
     if words % 2 != 0 {
-        return Verdict::Refused(Refusal::Length(0));
+        return Err(Refusal::Length(0));
     }
     if words < 4 {
-        return Verdict::Refused(Refusal::Length(0));
+        return Err(Refusal::Length(0));
     }
     if words > 8194 {
-        return Verdict::Refused(Refusal::Length(0));
+        return Err(Refusal::Length(0));
     }
     if hi < lo {
-        return Verdict::Refused(Refusal::Bins);
+        return Err(Refusal::Bins);
     }
     if hi >= words / 2 {
-        return Verdict::Refused(Refusal::Bins);
+        return Err(Refusal::Bins);
     }
     let large = first_unfit(spectrum, CEILING);
     if large < words {
-        return Verdict::Refused(Refusal::Number(large));
+        return Err(Refusal::Number(large));
     }
-    Verdict::Accepted
+    Ok(())
 }

@@ -27,23 +27,23 @@ pub fn lent(half: usize, m: u32, w: u32, input: &[u32], room: usize) -> Verdict
     ensures { result ≡ lent_verdict half m w input.now room }
 {
     if m < 2 {
-        return Verdict::Refused(Refusal::Modulus);
+        return Err(Refusal::Modulus);
     }
     if w >= m {
-        return Verdict::Refused(Refusal::Base);
+        return Err(Refusal::Base);
     }
     if power(w as u64, half as u64, m as u64) != 1 {
-        return Verdict::Refused(Refusal::Base);
+        return Err(Refusal::Base);
     }
     if input.len() != half {
-        return Verdict::Refused(Refusal::Length(0));
+        return Err(Refusal::Length(0));
     }
     if room != half {
-        return Verdict::Refused(Refusal::Length(2));
+        return Err(Refusal::Length(2));
     }
     let large = first_large(input, m);
     if large < input.len() {
-        return Verdict::Refused(Refusal::Remainder(large));
+        return Err(Refusal::Remainder(large));
     }
-    Verdict::Accepted
+    Ok(())
 }

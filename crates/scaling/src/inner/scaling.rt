@@ -78,7 +78,7 @@ fn refused(why: Refusal) -> Scaled
     ensures { result ≡ refused_scaling why }
 {
     Scaled {
-        verdict: Verdict::Refused(why),
+        verdict: Err(why),
         p: 0,
         in_product: 0,
         out_product: 0,
@@ -100,14 +100,14 @@ fn check(from: usize, list: &[u8]) -> Verdict
 {
     let bad = first_bad(list);
     if bad < list.len() {
-        return Verdict::Refused(Refusal::NoRadix(from + bad));
+        return Err(Refusal::NoRadix(from + bad));
     }
     let run = running_product(list);
     let over = run.at;
     if over < list.len() {
-        return Verdict::Refused(Refusal::TooLarge(from + over));
+        return Err(Refusal::TooLarge(from + over));
     }
-    Verdict::Accepted
+    Ok(())
 }
 
 // Two lists of radices scaled, with their products.
@@ -125,7 +125,7 @@ fn scaled_lists(target: usize, in_list: &[u8], out_list: &[u8]) -> Scaled
     let grown_in = grown(in_list, g);
     let grown_out = grown(out_list, g);
     Scaled {
-        verdict: Verdict::Accepted,
+        verdict: Ok(()),
         p,
         in_product: p * ins.product,
         out_product: p * outs.product,
@@ -140,11 +140,11 @@ pub fn scale_to(target: usize, in_list: &[u8], out_list: &[u8]) -> Scaled
     ensures { result ≡ scaled target in_list.now out_list.now }
 {
     let ins = check(0, in_list);
-    if let Verdict::Refused(why) = ins {
+    if let Err(why) = ins {
         return refused(why);
     }
     let outs = check(in_list.len(), out_list);
-    if let Verdict::Refused(why) = outs {
+    if let Err(why) = outs {
         return refused(why);
     }
     scaled_lists(target, in_list, out_list)

@@ -39,27 +39,27 @@ fn sizes(
     ensures { result ≡ size_verdict plan width input output scratch stage end }
 {
     if !is_planned(plan) {
-        return Verdict::Refused(Refusal::NotPlanned(0));
+        return Err(Refusal::NotPlanned(0));
     }
     if !is_width(width) {
-        return Verdict::Refused(Refusal::Width);
+        return Err(Refusal::Width);
     }
     if !input {
-        return Verdict::Refused(Refusal::Length(0));
+        return Err(Refusal::Length(0));
     }
     if !output {
-        return Verdict::Refused(Refusal::Length(1));
+        return Err(Refusal::Length(1));
     }
     if scratch < 6 * plan.n {
-        return Verdict::Refused(Refusal::Length(2));
+        return Err(Refusal::Length(2));
     }
     if stage != 2 * twiddle_start(plan, plan.count) {
-        return Verdict::Refused(Refusal::Length(3));
+        return Err(Refusal::Length(3));
     }
     if end != 2 * end_count(plan.n) {
-        return Verdict::Refused(Refusal::Length(4));
+        return Err(Refusal::Length(4));
     }
-    Verdict::Accepted
+    Ok(())
 }
 
 // Refusals 9 and 10, in this order, with so large a bound for the input.
@@ -68,17 +68,17 @@ fn numbers(input: &[f32], most: f32, stage: &[f32], end: &[f32]) -> Verdict
 {
     let large = first_unfit(input, most);
     if large < input.len() {
-        return Verdict::Refused(Refusal::Number(large));
+        return Err(Refusal::Number(large));
     }
     let wide = first_unfit(stage, 1.0);
     if wide < stage.len() {
-        return Verdict::Refused(Refusal::Twiddle(wide));
+        return Err(Refusal::Twiddle(wide));
     }
     let last = first_unfit(end, 1.0);
     if last < end.len() {
-        return Verdict::Refused(Refusal::Twiddle(stage.len() + last));
+        return Err(Refusal::Twiddle(stage.len() + last));
     }
-    Verdict::Accepted
+    Ok(())
 }
 
 // The verdict of a transform.
@@ -95,7 +95,7 @@ pub fn lent(
 ) -> Verdict
     ensures { (k : ℕ) → most ≡ bound k → result ≡ lent_verdict plan width is_input is_output scratch k input.now stage.now end.now }
 {
-    match sizes(
+    sizes(
         plan,
         width,
         is_input,
@@ -103,10 +103,8 @@ pub fn lent(
         scratch,
         stage.len(),
         end.len(),
-    ) {
-        Verdict::Accepted => numbers(input, most, stage, end),
-        Verdict::Refused(why) => Verdict::Refused(why),
-    }
+    )?;
+    numbers(input, most, stage, end)
 }
 
 // The verdict of `forward`, for callers that go on where it accepts: n samples of at most 2^32, and room for so many words.

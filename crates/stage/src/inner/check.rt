@@ -21,24 +21,24 @@ fn sizes(
     ensures { result ≡ size_verdict plan number width input output twiddles }
 {
     if !is_planned(plan) {
-        return Verdict::Refused(Refusal::NotPlanned(0));
+        return Err(Refusal::NotPlanned(0));
     }
     if number >= plan.count {
-        return Verdict::Refused(Refusal::Stage);
+        return Err(Refusal::Stage);
     }
     if !is_width(width) {
-        return Verdict::Refused(Refusal::Width);
+        return Err(Refusal::Width);
     }
     if input != 2 * plan.half {
-        return Verdict::Refused(Refusal::Length(0));
+        return Err(Refusal::Length(0));
     }
     if output != 2 * plan.half {
-        return Verdict::Refused(Refusal::Length(1));
+        return Err(Refusal::Length(1));
     }
     if twiddles != 2 * twiddle_count(plan, number) {
-        return Verdict::Refused(Refusal::Length(3));
+        return Err(Refusal::Length(3));
     }
-    Verdict::Accepted
+    Ok(())
 }
 
 // Refusals 9 and 10, in this order.
@@ -47,13 +47,13 @@ fn numbers(input: &[f32], twiddles: &[f32]) -> Verdict
 {
     let large = first_unfit(input, CEILING);
     if large < input.len() {
-        return Verdict::Refused(Refusal::Number(large));
+        return Err(Refusal::Number(large));
     }
     let wide = first_unfit(twiddles, 1.0);
     if wide < twiddles.len() {
-        return Verdict::Refused(Refusal::Twiddle(wide));
+        return Err(Refusal::Twiddle(wide));
     }
-    Verdict::Accepted
+    Ok(())
 }
 
 // The verdict of a stage, whose other buffer has so many words.
@@ -67,8 +67,6 @@ pub fn lent(
 ) -> Verdict
     ensures { result ≡ stage_verdict plan number width input.now output twiddles.now }
 {
-    match sizes(plan, number, width, input.len(), output, twiddles.len()) {
-        Verdict::Accepted => numbers(input, twiddles),
-        Verdict::Refused(why) => Verdict::Refused(why),
-    }
+    sizes(plan, number, width, input.len(), output, twiddles.len())?;
+    numbers(input, twiddles)
 }

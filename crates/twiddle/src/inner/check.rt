@@ -14,19 +14,19 @@ pub fn lent(plan: Record, width: usize, stage: usize, end: usize) -> Verdict
     ensures { result ≡ fill_verdict plan width stage end }
 {
     if !is_planned(plan) {
-        return Verdict::Refused(Refusal::NotPlanned(0));
+        return Err(Refusal::NotPlanned(0));
     }
     if !is_width(width) {
-        return Verdict::Refused(Refusal::Width);
+        return Err(Refusal::Width);
     }
     if !is_housed(plan.n) {
-        return Verdict::Refused(Refusal::NotHoused);
+        return Err(Refusal::NotHoused);
     }
     if stage != 2 * twiddle_start(plan, plan.count) {
-        return Verdict::Refused(Refusal::Length(3));
+        return Err(Refusal::Length(3));
     }
     if end != 2 * end_count(plan.n) {
-        return Verdict::Refused(Refusal::Length(4));
+        return Err(Refusal::Length(4));
     }
-    Verdict::Accepted
+    Ok(())
 }

@@ -18,14 +18,10 @@ pub fn fill(
 ) -> Verdict
     ensures { Fills direction plan width (stage_twiddles.old, end_twiddles.old) result (stage_twiddles.new, end_twiddles.new) }
 {
-    match lent(plan, width, stage_twiddles.len(), end_twiddles.len()) {
-        Verdict::Accepted => {
-            let c = cosines();
-            let s = sines();
-            stages(&c, &s, plan, width, stage_twiddles);
-            ends(&c, &s, direction, plan.n, end_twiddles);
-            Verdict::Accepted
-        }
-        Verdict::Refused(why) => Verdict::Refused(why),
-    }
+    lent(plan, width, stage_twiddles.len(), end_twiddles.len())?;
+    let c = cosines();
+    let s = sines();
+    stages(&c, &s, plan, width, stage_twiddles);
+    ends(&c, &s, direction, plan.n, end_twiddles);
+    Ok(())
 }
