@@ -1,7 +1,8 @@
 -- Laws of the verdict: which row decides, what an accepted call tells, what its tests tell of numbers, and what a call leaves. Assumes nothing.
 use Rattle.sequences.proofs.Basics.{◌≡◌, refl, ap, ◌∙◌, ℕ, ◌*◌, ◌<◌, ◌≤◌, Bool, true, false, not, ◌||◌, List, [], ◌∷◌, ◌++◌, eqb, ltb, eq-eqb, ne_eqb, lt-ltb}
 use Rattle.sequences.proofs.Basics.{le-ltb, eqb-true, eqb-false, ltb-true, ltb-false, not-true, not-false}
-use Rattle.refusal.specs.Refusal.{Row, verdict_by, verdict, left, Settles}
+use Rattle.std.specs.Prelude.{Ok, Err}
+use Rattle.refusal.specs.Refusal.{Row, verdict_by, verdict, granted, left, Settles}
 use Rattle.refusal.specs.declared.Refusal.{Refusal}
 use Rattle.refusal.specs.Refusal.{Verdict}
 use Rattle.refusal.specs.Refusal.{Accepted, Refused}
@@ -22,6 +23,9 @@ held b e = rw e
 
 pub failed : (b : Bool) → b ≡ false → not b ≡ true
 failed b e = rw e
+
+pub told_is : (b r t : Bool) → r ≡ b → r ≡ t → b ≡ t
+told_is b r t e f = rw e at f
 
 pub told_not : (b r t : Bool) → r ≡ b → not r ≡ t → not b ≡ t
 told_not b r t e f = rw e at f
@@ -110,6 +114,25 @@ accepted_on [] more e = refl
 accepted_on (row ∷ rows) more e =
     let given = row.given in let why = row.why in
     rw (not_given given why (verdict rows) e) (accepted_on rows more (others_accept given why (verdict rows) e))
+
+-- ---- what a call answers
+
+-- a refused call answers its refusal
+pub refuses : {A : Type 0} (v : Verdict) (a : A) (why : Refusal) → Refused why ≡ v → Err why ≡ granted v a
+refuses v a why e = ap (λ (u : Verdict). granted u a) e
+
+-- an accepted one a value
+pub grants : {A : Type 0} (v : Verdict) (a b : A) → Accepted ≡ v → b ≡ a → Ok b ≡ granted v a
+grants v a b e f = ap (λ x. Ok x) f ∙ ap (λ (u : Verdict). granted u a) e
+
+-- and only that
+pub granted_ok : {A : Type 0} (v : Verdict) (a b : A) → Ok b ≡ granted v a → (v ≡ Accepted) × (b ≡ a)
+granted_ok Accepted a b e = (refl, cc)
+granted_ok (Refused why) a b e = cc
+
+pub granted_err : {A : Type 0} (v : Verdict) (a : A) (why : Refusal) → Err why ≡ granted v a → v ≡ Refused why
+granted_err Accepted a why e = cc
+granted_err (Refused other) a why e = cc
 
 -- ---- what a call leaves
 

@@ -1,10 +1,9 @@
 -- Scaling of two base lists so that the in-product reaches a target. Assumes nothing.
-use Rattle.std.specs.Prelude.{ℕ, zero, suc, ◌+◌, ◌*◌, ◌/◌, ◌%◌, ◌^◌, ◌≡◌, cond, List, [], ◌∷◌, ◌++◌, eqb, leb, ltb, length, replicate}
-use Rattle.refusal.specs.Refusal.{Row, ◌⇒◌, verdict}
+use Rattle.std.specs.Prelude.{ℕ, zero, suc, ◌+◌, ◌*◌, ◌/◌, ◌%◌, ◌^◌, ◌≡◌, cond, List, [], ◌∷◌, ◌++◌, eqb, leb, ltb, length, replicate, Result}
+use Rattle.refusal.specs.Refusal.{Row, ◌⇒◌, verdict, granted}
 use Rattle.refusal.specs.declared.Refusal.{Refusal}
 use Rattle.refusal.specs.declared.Refusal.TheVariants.{NoRadix, TooLarge}
 use Rattle.refusal.specs.Refusal.{Verdict}
-use Rattle.refusal.specs.Refusal.{Accepted, Refused}
 use Rattle.radices.specs.Lists.{product, first_bad, first_over, largest, listed}
 use Rattle.scaling.specs.declared.Scaled.{Scaled}
 
@@ -39,22 +38,9 @@ scale_verdict target ins outs =
     ++ list_rows (length ins) outs
     ++ (ltb largest (2 ^ gain target (product ins) * product outs) ⇒ TooLarge (length ins + length outs) ∷ []))
 
--- every number 0
-unfoldable pub refused_scaling : Refusal → Scaled
-refused_scaling why =
-    record {
-      verdict = Refused why;
-      p = 0;
-      in_product = 0;
-      out_product = 0;
-      in_list = record { count = 0; entries = replicate 13 0 };
-      out_list = record { count = 0; entries = replicate 13 0 };
-    }
-
 unfoldable pub accepted_scaling : (g : ℕ) → List ℕ → List ℕ → Scaled
 accepted_scaling g ins outs =
     record {
-      verdict = Accepted;
       p = 2 ^ g;
       in_product = 2 ^ g * product ins;
       out_product = 2 ^ g * product outs;
@@ -62,14 +48,10 @@ accepted_scaling g ins outs =
       out_list = listed (outs ++ gained g);
     }
 
-abbrev pub scaled_by : Verdict → (g : ℕ) → List ℕ → List ℕ → Scaled
-scaled_by Accepted g ins outs = accepted_scaling g ins outs
-scaled_by (Refused why) g ins outs = refused_scaling why
-
 -- what scaling to a target answers
-unfoldable pub scaled : (target : ℕ) → List ℕ → List ℕ → Scaled
-scaled target ins outs = scaled_by (scale_verdict target ins outs) (gain target (product ins)) ins outs
+unfoldable pub scaled : (target : ℕ) → List ℕ → List ℕ → Result Scaled Refusal
+scaled target ins outs = granted (scale_verdict target ins outs) (accepted_scaling (gain target (product ins)) ins outs)
 
 -- what `scale` promises of its answer
-pub record Scales (ins outs : List ℕ) (r : Scaled) : Type 0 where
+pub record Scales (ins outs : List ℕ) (r : Result Scaled Refusal) : Type 0 where
   pub answer : r ≡ scaled 512 ins outs

@@ -2,7 +2,7 @@
 ghost use Rattle.std.specs.Prelude.{◌≡◌, ◌+◌, ◌*◌, ◌^◌, ◌≤◌, ◌<◌, length, set, ◌++◌};
 ghost use Rattle.radices.specs.Lists.{listed};
 ghost use Rattle.scaling.specs.Parts.{Scalable};
-ghost use Rattle.scaling.specs.Scaling.{gain, gained, list_rows, refused_scaling, scaled};
+ghost use Rattle.scaling.specs.Scaling.{gain, gained, list_rows, scaled};
 ghost use Rattle.refusal.specs.Refusal.{verdict};
 
 use crate::Scaled;
@@ -73,26 +73,6 @@ pub fn grown(list: &[u8], g: usize) -> Radices
     }
 }
 
-// The answer of scaling for refused lists.
-fn refused(why: Refusal) -> Scaled
-    ensures { result ≡ refused_scaling why }
-{
-    Scaled {
-        verdict: Err(why),
-        p: 0,
-        in_product: 0,
-        out_product: 0,
-        in_list: Radices {
-            count: 0,
-            entries: [0u8; 13],
-        },
-        out_list: Radices {
-            count: 0,
-            entries: [0u8; 13],
-        },
-    }
-}
-
 // Refusals 2 and 3 over a list, with indices that run on from `from`.
 fn check(from: usize, list: &[u8]) -> Verdict
     requires { from + length list.now < 2 ^ 64 }
@@ -111,7 +91,7 @@ fn check(from: usize, list: &[u8]) -> Verdict
 }
 
 // Two lists of radices scaled, with their products.
-fn scaled_lists(target: usize, in_list: &[u8], out_list: &[u8]) -> Scaled
+fn scaled_lists(target: usize, in_list: &[u8], out_list: &[u8]) -> Result<Scaled, Refusal>
     requires { Scalable target in_list.now out_list.now }
     ensures { result ≡ scaled target in_list.now out_list.now }
 {
@@ -120,32 +100,25 @@ fn scaled_lists(target: usize, in_list: &[u8], out_list: &[u8]) -> Scaled
     let g = gain(target, ins.product);
     let p = power(g);
     if p * outs.product > 8192 {
-        return refused(Refusal::TooLarge(in_list.len() + out_list.len()));
+        return Err(Refusal::TooLarge(in_list.len() + out_list.len()));
     }
     let grown_in = grown(in_list, g);
     let grown_out = grown(out_list, g);
-    Scaled {
-        verdict: Ok(()),
+    Ok(Scaled {
         p,
         in_product: p * ins.product,
         out_product: p * outs.product,
         in_list: grown_in,
         out_list: grown_out,
-    }
+    })
 }
 
 // Both lists scaled so that the in-list's product is at least the target.
-pub fn scale_to(target: usize, in_list: &[u8], out_list: &[u8]) -> Scaled
+pub fn scale_to(target: usize, in_list: &[u8], out_list: &[u8]) -> Result<Scaled, Refusal>
     requires { target ≤ 4096 }
     ensures { result ≡ scaled target in_list.now out_list.now }
 {
-    let ins = check(0, in_list);
-    if let Err(why) = ins {
-        return refused(why);
-    }
-    let outs = check(in_list.len(), out_list);
-    if let Err(why) = outs {
-        return refused(why);
-    }
+    check(0, in_list)?;
+    check(in_list.len(), out_list)?;
     scaled_lists(target, in_list, out_list)
 }
