@@ -1,7 +1,9 @@
 -- Laws of the verdict: which row decides, what an accepted call tells, what its tests tell of numbers, and what a call leaves. Assumes nothing.
 use Rattle.sequences.proofs.Basics.{◌≡◌, refl, ap, ◌∙◌, ℕ, ◌*◌, ◌<◌, ◌≤◌, Bool, true, false, not, ◌||◌, List, [], ◌∷◌, ◌++◌, eqb, ltb, eq-eqb, ne_eqb, lt-ltb}
 use Rattle.sequences.proofs.Basics.{le-ltb, eqb-true, eqb-false, ltb-true, ltb-false, not-true, not-false}
-use Rattle.std.specs.Prelude.{Ok, Err}
+use Rattle.std.specs.Prelude.{Result, Ok, Err}
+use Rattle.std.specs.Result.{IsErrAnd}
+use Rattle.std.proofs.lemmas.Result.{err_from_is_err_and}
 use Rattle.refusal.specs.Refusal.{Row, verdict_by, verdict, granted, left, Settles}
 use Rattle.refusal.specs.declared.Refusal.{Refusal}
 use Rattle.refusal.specs.Refusal.{Verdict}
@@ -133,6 +135,10 @@ granted_ok (Refused why) a b e = cc
 pub granted_err : {A : Type 0} (v : Verdict) (a : A) (why : Refusal) → Err why ≡ granted v a → v ≡ Refused why
 granted_err Accepted a why e = cc
 granted_err (Refused other) a why e = cc
+
+-- what the exit of a `?` answers
+pub thrown : {A : Type 0} (r : Result A Refusal) (why : Refusal) → IsErrAnd r (λ e. e ≡ why) → r ≡ Err why
+thrown r why s = let p = err_from_is_err_and r s in p.1 ∙ ap (λ (e : Refusal). Err e) p.2
 
 -- ---- what a call leaves
 

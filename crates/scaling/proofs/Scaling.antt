@@ -16,7 +16,9 @@ use Rattle.scaling.specs.declared.Scaled.{Scaled}
 use Rattle.radices.specs.declared.inner.lists.Running.{Running}
 use Rattle.radices.specs.Lists.{product, largest, is_radix, first_bad, first_over, padded, listed, running_product}
 use Rattle.scaling.specs.Parts.{Scalable}
-use Rattle.scaling.specs.Scaling.{gain_from, gain, over, gained, list_rows, scale_verdict, refused_scaling, accepted_scaling, scaled_by, scaled}
+use Rattle.std.specs.Prelude.{Ok, Err}
+use Rattle.refusal.specs.Refusal.{granted}
+use Rattle.scaling.specs.Scaling.{gain_from, gain, over, gained, list_rows, scale_verdict, accepted_scaling, scaled}
 use Rattle.radices.proofs.Lists.{product_append, listed_is, push_padded, running_all, paste_empty, filled_padded}
 use Rattle.radices.proofs.Products.{Radical, radical_append, radical_replicate, radical, product_replicate, product_positive, over_none_small, pow_eight}
 use Rattle.radices.proofs.Products.{entries_few, bad_none, over_none_at}
@@ -223,18 +225,18 @@ module _ (target : ℕ) (ins outs : List ℕ) where
   abbrev last : List Row
   last = ltb largest (2 ^ gain target (product ins) * product outs) ⇒ TooLarge (length ins + length outs) ∷ []
 
-  by_verdict : (v : Verdict) → scale_verdict target ins outs ≡ v → scaled_by v (gain target (product ins)) ins outs ≡ scaled target ins outs
+  by_verdict : (v : Verdict) → scale_verdict target ins outs ≡ v → granted v (accepted_scaling (gain target (product ins)) ins outs) ≡ scaled target ins outs
   unfolding scaled
-  by_verdict v e = ap (λ (x : Verdict). scaled_by x (gain target (product ins)) ins outs) (sym e)
+  by_verdict v e = ap (λ (x : Verdict). granted x (accepted_scaling (gain target (product ins)) ins outs)) (sym e)
 
-  pub scale_in : (why : Refusal) (r : Scaled) → r ≡ refused_scaling why → verdict (list_rows 0 ins) ≡ Refused why → r ≡ scaled target ins outs
+  pub scale_in : (why : Refusal) → verdict (list_rows 0 ins) ≡ Refused why → Err why ≡ scaled target ins outs
   unfolding scale_verdict
-  scale_in why r p e = p ∙ by_verdict (Refused why) (refused_on (list_rows 0 ins) (list_rows (length ins) outs ++ last) why e)
+  scale_in why e = by_verdict (Refused why) (refused_on (list_rows 0 ins) (list_rows (length ins) outs ++ last) why e)
 
   module _ (a : verdict (list_rows 0 ins) ≡ Accepted) where
-    pub scale_out : (why : Refusal) (r : Scaled) → r ≡ refused_scaling why → verdict (list_rows (length ins) outs) ≡ Refused why → r ≡ scaled target ins outs
+    pub scale_out : (why : Refusal) → verdict (list_rows (length ins) outs) ≡ Refused why → Err why ≡ scaled target ins outs
     unfolding scale_verdict
-    scale_out why r p e = p ∙ by_verdict (Refused why)
+    scale_out why e = by_verdict (Refused why)
         (accepted_on (list_rows 0 ins) (list_rows (length ins) outs ++ last) a ∙ refused_on (list_rows (length ins) outs) last why e)
 
 -- with i and o the running products of both lists, g the gain and p its power
@@ -277,13 +279,12 @@ module _ {target : ℕ} {ins outs : List ℕ} (h : Scalable target ins outs) {i 
         scaled_out : p * o.product ≡ 2 ^ gain target (product ins) * product outs
         scaled_out = rw (ep, same_gain, base_product out_base eo)
 
-        pub scale_large : largest < p * o.product → {r : Scaled} → r ≡ refused_scaling (TooLarge (length ins + length outs)) → r ≡ scaled target ins outs
-        scale_large l x = x ∙ by_verdict target ins outs (Refused (TooLarge (length ins + length outs)))
+        pub scale_large : largest < p * o.product → Err (TooLarge (length ins + length outs)) ≡ scaled target ins outs
+        scale_large l = by_verdict target ins outs (Refused (TooLarge (length ins + length outs)))
             (on_last ∙ simp (lt-ltb largest _ (rw scaled_out at l)))
 
-        pub scale_accepted : p * o.product ≤ largest → {x y : Radices} → x ≡ listed (ins ++ gained g) → y ≡ listed (outs ++ gained g) → ◌≡◌ {A = Scaled}
-            (record { verdict = Accepted; p = p; in_product = p * i.product; out_product = p * o.product; in_list = x; out_list = y })
-            (scaled target ins outs)
+        pub scale_accepted : p * o.product ≤ largest → {x y : Radices} → x ≡ listed (ins ++ gained g) → y ≡ listed (outs ++ gained g)
+            → Ok (record { p = p; in_product = p * i.product; out_product = p * o.product; in_list = x; out_list = y }) ≡ scaled target ins outs
         unfolding accepted_scaling
         scale_accepted l u v = rw (u, v, scaled_out, ep, base_product in-base ei, same_gain)
             (by_verdict target ins outs Accepted (on_last ∙ simp (le-ltb largest _ (rw scaled_out at l))))

@@ -16,7 +16,7 @@ overflow_mul-p c = record {
 
 pub returns-then-p-outs-gt8192 : goal.returns-then-p-outs-gt8192
 returns-then-p-outs-gt8192 c = scale_large c.requires c.running_product-ins.ensures c.gain-g.ensures c.power-p.ensures
-    c.running_product-outs.ensures c.if-p-outs-gt8192.true c.refused.ensures
+    c.running_product-outs.ensures c.if-p-outs-gt8192.true
 
 pub grown-grown_in-requires : goal.grown-grown_in-requires
 grown-grown_in-requires c = in_fits c.requires c.running_product-ins.ensures c.gain-g.ensures
