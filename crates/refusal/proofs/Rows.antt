@@ -146,6 +146,11 @@ thrown r why s = let p = err_from_is_err_and r s in p.1 ∙ ap (λ (e : Refusal)
 pub settles_refused : {A : Type 0} (v : Verdict) (made lent : A) (why : Refusal) → Refused why ≡ v → Settles v made lent (Refused why) lent
 settles_refused v made lent why e = record { answer = e; cells = ap (λ (u : Verdict). left u made lent) e }
 
+-- and so does one that ends at a `?`
+pub settles_thrown : {A : Type 0} (v : Verdict) (made lent : A) (r : Verdict) (why : Refusal) → IsErrAnd r (λ e. e ≡ why) → Refused why ≡ v
+    → Settles v made lent r lent
+settles_thrown v made lent r why s e = rw (thrown r why s) (settles_refused v made lent why e)
+
 -- an accepted one leaves what it makes
 pub settles_accepted : {A : Type 0} (v : Verdict) (made lent after : A) → Accepted ≡ v → after ≡ made → Settles v made lent Accepted after
 settles_accepted v made lent after e f = record { answer = e; cells = f ∙ ap (λ (u : Verdict). left u made lent) e }

@@ -1,22 +1,22 @@
 -- `hear::lent_band` meets its contract. Assumes nothing.
 use Rattle.sequences.proofs.Basics.{refl, sym, ◌∙◌}
-use Rattle.refusal.proofs.Rows.{deciding}
+use Rattle.refusal.proofs.Rows.{deciding, thrown}
 use Rattle.hear.specs.Hear.{hear_verdict}
 use Rattle.hear.proofs.Verdicts.{band_after}
 use Rattle.hear.proofs.lent_band.Goals as goal
 
 pub returns-then-hi-lo : goal.returns-then-hi-lo
 unfolding hear_verdict
-returns-then-hi-lo c = band_after _ _ _ _ _ _ (sym c.in-Accepted.is ∙ c.lent_samples.ensures) (search deciding)
+returns-then-hi-lo c = band_after _ _ _ _ _ _ (sym c.in_ok-lent_samples.was ∙ c.lent_samples.ensures) (search deciding)
 
 pub returns-then-hi-plan : goal.returns-then-hi-plan
 unfolding hear_verdict
-returns-then-hi-plan c = band_after _ _ _ _ _ _ (sym c.in-Accepted.is ∙ c.lent_samples.ensures) (search deciding)
+returns-then-hi-plan c = band_after _ _ _ _ _ _ (sym c.in_ok-lent_samples.was ∙ c.lent_samples.ensures) (search deciding)
 
 pub returns-else-hi-plan : goal.returns-else-hi-plan
 unfolding hear_verdict
-returns-else-hi-plan c = band_after _ _ _ _ _ _ (sym c.in-Accepted.is ∙ c.lent_samples.ensures) (search deciding)
+returns-else-hi-plan c = band_after _ _ _ _ _ _ (sym c.in_ok-lent_samples.was ∙ c.lent_samples.ensures) (search deciding)
 
-pub returns-in-Refused : goal.returns-in-Refused
+pub returns-in_err-lent_samples : goal.returns-in_err-lent_samples
 unfolding hear_verdict
-returns-in-Refused c = band_after _ _ _ _ _ _ (sym c.in-Refused.is ∙ c.lent_samples.ensures) refl
+returns-in_err-lent_samples c = thrown _ _ c.from_residual.ensures.1 ∙ band_after _ _ _ _ _ _ (sym c.in_err-lent_samples.was ∙ c.lent_samples.ensures) refl

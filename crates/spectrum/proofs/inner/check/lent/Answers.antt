@@ -1,20 +1,20 @@
 -- `spectrum::inner::check::lent` meets its contract. Assumes nothing.
 use Rattle.sequences.proofs.Basics.{sym, ◌∙◌, length}
-use Rattle.refusal.proofs.Rows.{refused_on, accepted_on}
+use Rattle.refusal.proofs.Rows.{thrown, refused_on, accepted_on}
 use Rattle.spectrum.specs.Calls.{size_rows, number_rows, size_verdict, number_verdict, lent_verdict}
 use Rattle.spectrum.proofs.inner.check.lent.Goals as goal
 
-pub returns-in-Accepted : goal.returns-in-Accepted
+pub returns : goal.returns
 unfolding size_verdict number_verdict lent_verdict
-returns-in-Accepted c = λ k e.
+returns c = λ k e.
     let a = c.args in let rows = size_rows a.plan a.width a.is_input a.is_output a.scratch (length a.stage.now) (length a.end.now) in
     c.numbers.ensures k e
     ∙ sym (accepted_on rows (number_rows k a.input.now a.stage.now a.end.now)
-    (sym c.sizes.ensures ∙ c.in-Accepted.is))
+    (sym c.sizes.ensures ∙ c.in_ok-sizes.was))
 
-pub returns-in-Refused : goal.returns-in-Refused
+pub returns-in_err-sizes : goal.returns-in_err-sizes
 unfolding size_verdict lent_verdict
-returns-in-Refused c = λ k e.
+returns-in_err-sizes c = λ k e.
     let a = c.args in let rows = size_rows a.plan a.width a.is_input a.is_output a.scratch (length a.stage.now) (length a.end.now) in
-    sym (refused_on rows (number_rows k a.input.now a.stage.now a.end.now) _ (sym c.sizes.ensures
-    ∙ c.in-Refused.is))
+    thrown _ _ c.from_residual.ensures.1 ∙ sym (refused_on rows (number_rows k a.input.now a.stage.now a.end.now) _ (sym c.sizes.ensures
+    ∙ c.in_err-sizes.was))
