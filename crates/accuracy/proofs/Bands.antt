@@ -5,7 +5,7 @@ use lib.Ieee.{Float, binary32}
 use Rattle.refusal.specs.Refusal.{Accepted}
 use Rattle.floats.specs.Complexes.{cell}
 use Rattle.power.specs.Power.{power_of, power_from, power_verdict, Powers}
-use Rattle.power.specs.declared.Summed.{Summed}
+use Rattle.std.specs.Prelude.{Ok}
 use Rattle.power.proofs.Sums.{bins_told}
 use Rattle.finite.specs.Sizes.{Words}
 use Rattle.finite.proofs.Calls.{summing, summed_within}
@@ -64,13 +64,12 @@ quiet_all Y B S Q n a b = omega (arith, mul-le-mul_left Y a)
 
 module _ (ys : List Float) (h D : ℕ) (exact : ℕ → Gauss) (long : length ys ≡ 2 * (h + 1))
     (held : (k : ℕ) → k ≤ h → Held binary32 (cell ys k).re × Held binary32 (cell ys k).im)
-    (near : (k : ℕ) → k ≤ h → Off D (scale_g (2 ^ 60) (val_c (cell ys k))) (exact k)) (lo hi : ℕ) (s : Summed) (sum : Powers ys lo hi s)
-    (taken : s.verdict ≡ Accepted) where
+    (near : (k : ℕ) → k ≤ h → Off D (scale_g (2 ^ 60) (val_c (cell ys k))) (exact k)) (lo hi : ℕ) (x : Float) (sum : Powers ys lo hi (Ok x)) where
   band : (lo ≤ hi) × (2 * (hi + 1) ≤ length ys) × (length ys ≤ 8194)
-  band = bins_told ys lo hi (power_verdict ys lo hi) refl (summing ys lo hi s sum taken).0
+  band = bins_told ys lo hi (power_verdict ys lo hi) refl (summing ys lo hi x sum).0
 
   small : Words 48 ys
-  small = summed_within ys lo hi s sum taken
+  small = summed_within ys lo hi x sum
 
   abbrev n : ℕ
   n = hi + 1 - lo
@@ -93,13 +92,13 @@ module _ (ys : List Float) (h D : ℕ) (exact : ℕ → Gauss) (long : length ys
   all : BandPower ys lo n (sum_n n P)
   all = band_power ys lo P n few (λ i l. let b = bin (lo + i) (in-band i l) in (b.has, b.small))
 
-  units : IsUnits all.S s.power
-  units = subst (IsUnits all.S) (sym (summing ys lo hi s sum taken).1)
+  units : IsUnits all.S x
+  units = subst (IsUnits all.S) (sym (summing ys lo hi x sum).1)
       (record { held = held_is binary32 (power_from ys lo n) false all.S all.has; value = val_is binary32 (power_from ys lo n) false all.S all.has })
 
   -- bin k goes C along r, which is at most A in size
   pub seen_in : (k : ℕ) → lo ≤ k → k ≤ hi → (r : Gauss) (A C : ℕ) → Disc A r → C + (along (exact k) r).less ≤ (along (exact k) r).more
-      → (S : ℕ) × IsUnits S s.power × (1023 * ((C - A * D) * (C - A * D)) ≤ 1024 * (2 ^ 60 * 2 ^ 60 * 2 ^ 149 * (A * A)) * (S + 2))
+      → (S : ℕ) × IsUnits S x × (1023 * ((C - A * D) * (C - A * D)) ≤ 1024 * (2 ^ 60 * 2 ^ 60 * 2 ^ 149 * (A * A)) * (S + 2))
   seen_in k lk kh r A C size enough =
       let at : lo + (k - lo) ≡ k = omega arith in let li : k - lo < n = omega arith in let z = cell ys k in
       let own : P (k - lo) ≡ mag binary32 (power_of z) = ap (λ (m : ℕ). mag binary32 (power_of (cell ys m))) at in
@@ -118,7 +117,7 @@ module _ (ys : List Float) (h D : ℕ) (exact : ℕ → Gauss) (long : length ys
 
   -- every bin of the band is at most M in size
   pub quiet_in : (M : ℕ) → ((k : ℕ) → lo ≤ k → k ≤ hi → Disc M (exact k))
-      → (S : ℕ) × IsUnits S s.power × (512 * (2 ^ 60 * 2 ^ 60 * 2 ^ 149 * S) ≤ 513 * ((hi + 1 - lo) * ((D + M) * (D + M) + 2 * (2 ^ 60 * 2 ^ 60 * 2 ^ 149))))
+      → (S : ℕ) × IsUnits S x × (512 * (2 ^ 60 * 2 ^ 60 * 2 ^ 149 * S) ≤ 513 * ((hi + 1 - lo) * ((D + M) * (D + M) + 2 * (2 ^ 60 * 2 ^ 60 * 2 ^ 149))))
   quiet_in M each =
       let one : (i : ℕ) → i < n → 2 ^ 24 * (2 ^ 60 * 2 ^ 60 * 2 ^ 149) * P i ≤ (2 ^ 24 + 3) * ((D + M) * (D + M)) + 2 * (2 ^ 24 * (2 ^ 60 * 2 ^ 60 * 2 ^ 149)) =
       λ i l.

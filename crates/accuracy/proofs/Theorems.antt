@@ -24,9 +24,12 @@ use Rattle.end_twiddles.specs.declared.inner.ends.Direction.TheVariants.{Forward
 use Rattle.twiddle.proofs.Verdicts.{taken}
 use Rattle.floats.specs.Complexes.{cell}
 use Rattle.spectrum.specs.Calls.{Forwards, Inverts}
-use Rattle.power.specs.Power.{power_from, power_verdict, Powers, summed}
+use Rattle.power.specs.Power.{power_from, power_verdict, Powers}
 use Rattle.transform.specs.Transforms.{Slices}
-use Rattle.power.specs.declared.Summed.{Summed}
+use Rattle.std.specs.Prelude.{Result, Ok}
+use Rattle.refusal.specs.declared.Refusal.{Refusal}
+use Rattle.refusal.specs.Refusal.{granted}
+use Rattle.refusal.proofs.Rows.{grants}
 use Rattle.hear.specs.Hear.{Hears}
 use Rattle.hear.specs.declared.Decision.TheVariants.{Fanning, Quiet}
 use Rattle.hear.specs.declared.Heard.{Heard}
@@ -242,22 +245,22 @@ module _ (p : Record) (W : ℕ) (lent : Slices) (v : Verdict) (tw : Slices) (fil
       (forward_held 140 (lit≤ tt) sized_accepted) (forward_accurate 140 (lit≤ tt) sized_accepted)
       (λ k l. exact_size (6720 / (2 * p.half)) p.half (sample xs) (2 * 2 ^ 180) abs_most k) room
 
-  pub power_accepts_it : (lo hi : ℕ) (s : Summed) → Powers after.0 lo hi s → lo ≤ hi → hi ≤ p.half → s.verdict ≡ Accepted
-  power_accepts_it lo hi s sum order inside = ap (λ (z : Summed). z.verdict)
-      (sum.answer ∙ ap (λ (u : Verdict). summed u (power_from after.0 lo (hi + 1 - lo))) (power_takes_it lo hi order inside))
+  pub power_accepts_it : (lo hi : ℕ) (s : Result Float Refusal) → Powers after.0 lo hi s → lo ≤ hi → hi ≤ p.half
+      → s ≡ Ok (power_from after.0 lo (hi + 1 - lo))
+  power_accepts_it lo hi s sum order inside =
+      sum.answer ∙ ap (λ (u : Verdict). granted u (power_from after.0 lo (hi + 1 - lo))) (power_takes_it lo hi order inside)
 
   -- ---- lines, in what power answers of that spectrum
 
-  module _ (b : ℕ) (few : b ≤ 164) (small : Sized b xs) (lo hi : ℕ) (s : Summed) (sum : Powers after.0 lo hi s) (inside : hi ≤ p.half) where
+  module _ (b : ℕ) (few : b ≤ 164) (small : Sized b xs) (lo hi : ℕ) (x : Float) (sum : Powers after.0 lo hi (Ok x)) (inside : hi ≤ p.half) where
     -- The samples go along a tone at bin k of the band by C: the power answered is at least 1023 / 1024 of C / A less the distance, squared, less two units.
     pub line_seen : (k : ℕ) → lo ≤ k → k ≤ hi → (r : Gauss) (A C : ℕ) → Correlates p.half xs k r A C
-        → (S : ℕ) × IsUnits S s.power
+        → (S : ℕ) × IsUnits S x
         × (1023 * ((C - A * distance p.count p.half b) * (C - A * distance p.count p.half b)) ≤ 1024 * (2 ^ 60 * 2 ^ 60 * 2 ^ 149 * (A * A)) *
         (S + 2))
     line_seen k lk kh r A C c =
         seen_in after.0 p.half (distance p.count p.half b) (exact_bin p.half xs) (bins_long p W lent v tw fills filled xs before r₀ after call e)
-        (forward_held b few small) (forward_accurate b few small) lo hi s sum
-        (power_accepts_it lo hi s sum (le_trans lk kh) inside) k lk kh r A C c.size
+        (forward_held b few small) (forward_accurate b few small) lo hi x sum k lk kh r A C c.size
         (moved C _ (sum_z (p.half * 2) (λ i. times_z (sample xs i) (tone house (6720 / (2 * p.half)) k r i)))
         (correlation house (6720 / (2 * p.half)) p.half (sample xs) k r) c.enough)
       where
@@ -266,24 +269,23 @@ module _ (p : Record) (W : ℕ) (lent : Slices) (v : Verdict) (tw : Slices) (fil
 
     -- Where they go along it by M beyond the distance, the power answered is at least 1023 / 1024 of M squared, less two units.
     pub line_heard : (k : ℕ) → lo ≤ k → k ≤ hi → (r : Gauss) (A M : ℕ) → 0 < A → Correlates p.half xs k r A (A * (M + distance p.count p.half b))
-        → (S : ℕ) × IsUnits S s.power × (1023 * (M * M) ≤ 1024 * (2 ^ 60 * 2 ^ 60 * 2 ^ 149) * (S + 2))
+        → (S : ℕ) × IsUnits S x × (1023 * (M * M) ≤ 1024 * (2 ^ 60 * 2 ^ 60 * 2 ^ 149) * (S + 2))
     line_heard k lk kh r A M pos c =
         let o = line_seen k lk kh r A (A * (M + distance p.count p.half b)) c in
         (o.0, o.1, by_size A M (distance p.count p.half b) (2 ^ 60 * 2 ^ 60 * 2 ^ 149) (o.0 + 2) pos o.2)
 
     -- Every exact bin of the band is at most M: the power answered is at most 513 / 512 of M and the distance, squared, for each bin, and two units.
     pub quiet_stays_quiet : lo ≤ hi → (M : ℕ) → ((k : ℕ) → lo ≤ k → k ≤ hi → Disc M (exact_bin p.half xs k))
-        → (S : ℕ) × IsUnits S s.power
+        → (S : ℕ) × IsUnits S x
         × (512 * (2 ^ 60 * 2 ^ 60 * 2 ^ 149 * S) ≤ 513 * ((hi + 1 - lo) *
         ((distance p.count p.half b + M) * (distance p.count p.half b + M) + 2 * (2 ^ 60 * 2 ^ 60 * 2 ^ 149))))
     quiet_stays_quiet order M each =
         quiet_in after.0 p.half (distance p.count p.half b) (exact_bin p.half xs) (bins_long p W lent v tw fills filled xs before r₀ after call e)
-        (forward_held b few small) (forward_accurate b few small) lo hi s sum
-        (power_accepts_it lo hi s sum order inside) M each
+        (forward_held b few small) (forward_accurate b few small) lo hi x sum M each
 
   -- ---- in the hive's words: 1,680 samples of 16 bits, divided by 32,768
 
-  module _ (size : p.n ≡ 1680) (sixteen : SixteenBit xs) (lo hi : ℕ) (s : Summed) (sum : Powers after.0 lo hi s) (inside : hi ≤ 840) where
+  module _ (size : p.n ≡ 1680) (sixteen : SixteenBit xs) (lo hi : ℕ) (x : Float) (sum : Powers after.0 lo hi (Ok x)) (inside : hi ≤ 840) where
     hive_plan : p ≡ plan_1680
     hive_plan = same_plan p plan_1680 planned passes_1680 size
 
@@ -296,21 +298,21 @@ module _ (p : Record) (W : ℕ) (lent : Slices) (v : Verdict) (tw : Slices) (fil
     -- A tone at bin k of amplitude 33 / 32,768 or more, rounded to 16 bits, goes along itself by 32 * 840 / 32,768 or more, half a unit being lost in each
     -- sample. Samples that go along a tone at k by so much, whatever else is in them, are answered with a power of 0.65 or more in any band with k.
     pub hive_heard : (k : ℕ) → lo ≤ k → k ≤ hi → (r : Gauss) (A : ℕ) → 0 < A → Correlates 840 xs k r A (A * (840 * 2 ^ 199))
-        → (S : ℕ) × IsUnits S s.power × (65 * 2 ^ 149 ≤ 100 * S)
+        → (S : ℕ) × IsUnits S x × (65 * 2 ^ 149 ≤ 100 * S)
     hive_heard k lk kh r A pos c =
         let M = 13634880 * 2 ^ 185 in
         let same : 840 * 2 ^ 199 ≡ M + distance p.count p.half 108 = rw hive_distance refl in
         let c' : Correlates p.half xs k r A (A * (M + distance p.count p.half 108)) =
         subst (λ (n : ℕ). Correlates p.half xs k r A (A * n)) same
         (subst (λ (q : Record). Correlates q.half xs k r A (A * (840 * 2 ^ 199))) (sym hive_plan) c) in
-        let o = line_heard 108 (lit≤ tt) (sixteen_sized xs sixteen) lo hi s sum hive_inside k lk kh r A M pos c' in
+        let o = line_heard 108 (lit≤ tt) (sixteen_sized xs sixteen) lo hi x sum hive_inside k lk kh r A M pos c' in
         (o.0, o.1, at_least (65 * 2 ^ 149) (1024 * (2 ^ 60 * 2 ^ 60 * 2 ^ 149)) (1023 * (M * M)) o.0 (lit< tt) o.2 (lit≤ tt))
 
     -- Where every exact bin of the band is at most 1 / 64, each adds at most 1 / 1,800 to the power.
     pub hive_quiet : lo ≤ hi → ((k : ℕ) → lo ≤ k → k ≤ hi → Disc (2 ^ 203) (exact_bin 840 xs k))
-        → (S : ℕ) × IsUnits S s.power × (1800 * S ≤ (hi + 1 - lo) * 2 ^ 149)
+        → (S : ℕ) × IsUnits S x × (1800 * S ≤ (hi + 1 - lo) * 2 ^ 149)
     hive_quiet order each =
-        let o = quiet_stays_quiet 108 (lit≤ tt) (sixteen_sized xs sixteen) lo hi s sum hive_inside order (2 ^ 203)
+        let o = quiet_stays_quiet 108 (lit≤ tt) (sixteen_sized xs sixteen) lo hi x sum hive_inside order (2 ^ 203)
         (subst (λ (q : Record). (k : ℕ) → lo ≤ k → k ≤ hi → Disc (2 ^ 203) (exact_bin q.half xs k)) (sym hive_plan) each) in
         let Y = 2 ^ 60 * 2 ^ 60 * 2 ^ 149 in
         let D = 127680 * 2 ^ 185 in (
@@ -333,16 +335,12 @@ module _ (p : Record) (W : ℕ) (lent : Slices) (v : Verdict) (tw : Slices) (fil
   band : (lo ≤ hi) × (hi ≤ p.half)
   band = heard_band p W tw.0 tw.1 xs lo hi threshold before h after call e
 
-  -- what power would answer of the spectrum that is left
-  abbrev answer : Summed
-  answer = record { verdict = Accepted; power = h.power }
-
-  summing : Powers after.0 lo hi answer
+  -- power would answer the same of the spectrum that is left
+  summing : Powers after.0 lo hi (Ok h.power)
   summing =
       record {
-        answer = ap (summed Accepted) (heard_power p W tw.0 tw.1 xs lo hi threshold before h after call e)
-            ∙ ap (λ (u : Verdict). summed u (power_from after.0 lo (hi + 1 - lo)))
-            (sym (power_takes_it p W lent v tw fills filled xs before Accepted after ran refl words lo hi band.0 band.1));
+        answer = grants _ _ _ (sym (power_takes_it p W lent v tw fills filled xs before Accepted after ran refl words lo hi band.0 band.1))
+            (heard_power p W tw.0 tw.1 xs lo hi threshold before h after call e);
       }
 
   -- a power of θ units or more is fanning, and one of fewer is quiet
@@ -358,7 +356,7 @@ module _ (p : Record) (W : ℕ) (lent : Slices) (v : Verdict) (tw : Slices) (fil
     pub tone_heard : (k : ℕ) → lo ≤ k → k ≤ hi → (r : Gauss) (A M : ℕ) → 0 < A → Correlates p.half xs k r A (A * (M + distance p.count p.half b))
         → 1024 * (2 ^ 60 * 2 ^ 60 * 2 ^ 149) * (θ + 2) ≤ 1023 * (M * M) → h.decision ≡ Fanning
     tone_heard k lk kh r A M pos c low =
-        let o = line_heard p W lent v tw fills filled xs before Accepted after ran refl words b few small lo hi answer summing band.1 k lk kh r A M pos c in
+        let o = line_heard p W lent v tw fills filled xs before Accepted after ran refl words b few small lo hi h.power summing band.1 k lk kh r A M pos c in
         let l : θ + 2 ≤ o.0 + 2 = le_of_mul-le-mul_left (le_trans low o.2) (lit< tt) in
         fans o.0 o.1 (omega arith)
 
@@ -368,7 +366,7 @@ module _ (p : Record) (W : ℕ) (lent : Slices) (v : Verdict) (tw : Slices) (fil
         < 512 * (2 ^ 60 * 2 ^ 60 * 2 ^ 149 * θ)
         → h.decision ≡ Quiet
     band_quiet M each high =
-        let o = quiet_stays_quiet p W lent v tw fills filled xs before Accepted after ran refl words b few small lo hi answer summing band.1 band.0 M
+        let o = quiet_stays_quiet p W lent v tw fills filled xs before Accepted after ran refl words b few small lo hi h.power summing band.1 band.0 M
         each in
         rests o.0 o.1 (fewer (2 ^ 60 * 2 ^ 60 * 2 ^ 149) o.0 θ (lt_of_le_of_lt o.2 high))
 
@@ -382,13 +380,13 @@ module _ (p : Record) (W : ℕ) (lent : Slices) (v : Verdict) (tw : Slices) (fil
     pub hive_tone_heard : (k : ℕ) → lo ≤ k → k ≤ hi → (r : Gauss) (A : ℕ) → 0 < A → Correlates 840 xs k r A (A * (840 * 2 ^ 199)) → 100 * θ ≤ 65 * 2 ^ 149
         → h.decision ≡ Fanning
     hive_tone_heard k lk kh r A pos c low =
-        let o = hive_heard p W lent v tw fills filled xs before Accepted after ran refl words size sixteen lo hi answer summing hive_in k lk kh r A pos c in
+        let o = hive_heard p W lent v tw fills filled xs before Accepted after ran refl words size sixteen lo hi h.power summing hive_in k lk kh r A pos c in
         fans o.0 o.1 (omega (arith, le_trans low o.2))
 
     -- a band whose exact bins are at most 1 / 64 is quiet, by a threshold above 1 / 1,800 for each of its bins
     pub hive_band_quiet : ((k : ℕ) → lo ≤ k → k ≤ hi → Disc (2 ^ 203) (exact_bin 840 xs k)) → (hi + 1 - lo) * 2 ^ 149 < 1800 * θ → h.decision ≡ Quiet
     hive_band_quiet each high =
-        let o = hive_quiet p W lent v tw fills filled xs before Accepted after ran refl words size sixteen lo hi answer summing hive_in band.0 each in
+        let o = hive_quiet p W lent v tw fills filled xs before Accepted after ran refl words size sixteen lo hi h.power summing hive_in band.0 each in
         rests o.0 o.1 (omega (arith, lt_of_le_of_lt o.2 high))
 
 -- ---- the way back

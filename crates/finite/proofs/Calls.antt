@@ -21,9 +21,10 @@ use Rattle.stage.proofs.Same.{own_count}
 use Rattle.stage.proofs.Theorems.{stage_told, stage_left}
 use Rattle.stage.proofs.Verdicts.{stage_taken}
 use Rattle.spectrum.specs.Calls.{Forwards, Inverts}
-use Rattle.power.specs.Power.{power_of, power_from, power_verdict, Powers, summed}
+use Rattle.power.specs.Power.{power_of, power_from, power_verdict, Powers}
 use Rattle.transform.specs.Transforms.{Slices}
-use Rattle.power.specs.declared.Summed.{Summed}
+use Rattle.std.specs.Prelude.{Ok}
+use Rattle.refusal.proofs.Rows.{granted_ok}
 use Rattle.power.proofs.Sums.{bins_told}
 use Rattle.spectrum.proofs.Verdicts.{lent_taken, forwardable, invertible}
 use Rattle.finite.specs.Sizes.{AtMost, Words, Within}
@@ -75,19 +76,10 @@ module _ (xs : List Float) (k : ℕ) (few : k ≤ 56) (w : Words k xs) where
       (add_most 14 (2 * n) 2 (k + k) (record { digits = digits; kept = lit≤ tt; below = omega arith }) _ _ (power_most lo n (omega arith) m)
       (bin_power (lo + n) (omega arith)))
 
--- an accepted answer has the sum
-pub told : (v : Verdict) (x : Float) (r : Summed) → r ≡ summed v x → r.verdict ≡ Accepted → (v ≡ Accepted) × (r.power ≡ x)
-told Accepted x r a e = (refl, ap (λ (z : Summed). z.power) a)
-told (Refused why) x r a e = absurd (differs (sym (ap (λ (z : Summed). z.verdict) a) ∙ e))
-  where
-    differs : Refused why ≡ Accepted → ⊥
-    differs f =
-        let z : ◌≡◌ {A = ℕ} 0 1 = cc in
-        absurd (omega arith)
-
-module _ (xs : List Float) (lo hi : ℕ) (r : Summed) (s : Powers xs lo hi r) (e : r.verdict ≡ Accepted) where
-  pub summing : (power_verdict xs lo hi ≡ Accepted) × (r.power ≡ power_from xs lo (hi + 1 - lo))
-  summing = told (power_verdict xs lo hi) (power_from xs lo (hi + 1 - lo)) r s.answer e
+module _ (xs : List Float) (lo hi : ℕ) (x : Float) (s : Powers xs lo hi (Ok x)) where
+  -- an accepted answer is the sum
+  pub summing : (power_verdict xs lo hi ≡ Accepted) × (x ≡ power_from xs lo (hi + 1 - lo))
+  summing = granted_ok _ _ _ s.answer
 
   -- its bins have numbers of at most 2 ^ 48
   pub summed_within : Words 48 xs
@@ -96,7 +88,7 @@ module _ (xs : List Float) (lo hi : ℕ) (r : Summed) (s : Powers xs lo hi r) (e
       let t = summing.0 in let few : length xs ≤ first_unfit 48 xs = search accepted depth 8 in
       scan_words 48 xs few
 
-  pub power_within : (k : ℕ) → k ≤ 56 → Words k xs → AtMost 8194 (k + k) r.power
+  pub power_within : (k : ℕ) → k ≤ 56 → Words k xs → AtMost 8194 (k + k) x
   power_within k few w =
       let t = bins_told xs lo hi (power_verdict xs lo hi) refl summing.0 in let n = hi + 1 - lo in
       let words : 2 * n ≤ 8194 = omega (arith, t.1, t.2) in

@@ -20,7 +20,7 @@ use Rattle.scratch.specs.Scratch.{data_of, pad_of}
 use Rattle.transform.specs.Transforms.{Slices, forward_of}
 use Rattle.mixing.specs.Steps.{fft_steps}
 use Rattle.ends.proofs.Cells.{length_ended}
-use Rattle.power.specs.declared.Summed.{Summed}
+use Rattle.std.specs.Prelude.{Ok}
 use Rattle.spectrum.proofs.Unique.{Forwards_one, Inverts_one}
 use Rattle.power.proofs.Unique.{Powers_one}
 use Rattle.spectrum.proofs.Verdicts.{forwardable, invertible}
@@ -33,7 +33,7 @@ use Rattle.finite.specs.Sizes.{AtMost, Words, RightForward, RightInverse, Within
 use Rattle.finite.specs.Whole.{IsWhole, Short, Small, Samples, IsBins}
 use Rattle.finite.proofs.Accepted.{lent_accepted, whole_most, words_wider}
 use Rattle.finite.proofs.Bits.{same_told, same_word, same_bits}
-use Rattle.finite.proofs.Calls.{stage_lent_within, stage_within, summed_within, power_within, samples_within, forward_within, bins_within}
+use Rattle.finite.proofs.Calls.{summing, stage_lent_within, stage_within, summed_within, power_within, samples_within, forward_within, bins_within}
 use Rattle.finite.proofs.Calls.{inverse_within}
 use Rattle.finite.proofs.Exact.{short_count, forward_whole, inverse_whole}
 use Rattle.finite.proofs.Fillings.{filled_ones}
@@ -102,8 +102,8 @@ module _ (p : Record) (W : ℕ) (stage end xs : List Float) (before : Slices) (r
   inverse_finite f e = inverse_within p W stage end xs before r after f e 48 (lit≤ tt) (bins_within p W stage end xs before r after f e)
 
 -- power: bins to 2 ^ 48 in, a sum below 2 ^ 110 out
-pub power_finite : (xs : List Float) (lo hi : ℕ) (r : Summed) → Powers xs lo hi r → r.verdict ≡ Accepted → AtMost 8194 96 r.power
-power_finite xs lo hi r s e = power_within xs lo hi r s e 48 (lit≤ tt) (summed_within xs lo hi r s e)
+pub power_finite : (xs : List Float) (lo hi : ℕ) (x : Float) → Powers xs lo hi (Ok x) → AtMost 8194 96 x
+power_finite xs lo hi x s = power_within xs lo hi x s 48 (lit≤ tt) (summed_within xs lo hi x s)
 
 -- ---- the same bits
 
@@ -135,10 +135,9 @@ fill_bits d p W before r r' after after' f g e =
     (same_bits 0 after.0 after'.0 w.0 (ap (λ (s : Slices). s.0) same), same_bits 0 after.1 after'.1 w.1 (ap (λ (s : Slices). s.1) same))
 
 -- and the bits of the sum that power answers
-pub power_bits : (xs : List Float) (lo hi : ℕ) (r r' : Summed) → Powers xs lo hi r → Powers xs lo hi r' → r.verdict ≡ Accepted → (b c : ℕ) → Holds b r.power
-    → Holds c r'.power → b ≡ c
-power_bits xs lo hi r r' s s' e b c h g =
-    same_word 8194 96 b c r.power (power_finite xs lo hi r s e) h (subst (λ (z : Summed). Holds c z.power) (Powers_one xs lo hi s' s) g)
+pub power_bits : (xs : List Float) (lo hi : ℕ) (x y : Float) → Powers xs lo hi (Ok x) → Powers xs lo hi (Ok y) → (b c : ℕ) → Holds b x → Holds c y → b ≡ c
+power_bits xs lo hi x y s t b c h g =
+    same_word 8194 96 b c x (power_finite xs lo hi x s) h (subst (Holds c) ((summing xs lo hi y t).1 ∙ sym (summing xs lo hi x s).1) g)
 
 -- forward leaves h + 1 bins
 bins_long : (p : Record) (W : ℕ) (stage end xs s : List Float) → length (forward_of p W stage end xs s).0 ≡ 2 * (p.half + 1)

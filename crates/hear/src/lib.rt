@@ -17,7 +17,7 @@ pub enum Decision {
     Quiet,
 }
 
-// What a block that is heard answers.
+// What a block that is heard answers. The verdict stands beside the decision, and is no Result of it: a refused block brakes too (`refused_brakes`).
 #[derive(Clone, Copy)]
 pub struct Heard {
     pub verdict: Verdict,
@@ -63,7 +63,10 @@ fn lent_band(
     ensures { result ≡ hear_verdict plan width input.now output scratch stage.now end.now lo hi }
 {
     lent_samples(plan, width, input, output, scratch, stage, end)?;
-    if hi < lo || hi > plan.half {
+    if hi < lo {
+        return Err(Refusal::Bins);
+    }
+    if hi > plan.half {
         return Err(Refusal::Bins);
     }
     Ok(())

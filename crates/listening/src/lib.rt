@@ -6,7 +6,7 @@ pub mod inner;
 use hear::Decision;
 use refusal::Verdict;
 
-// What a block answers: the power in the band and outside it, and whether the bees fan.
+// What a block answers: the power in the band and outside it, and whether the bees fan, which holds on a refusal too (`refused_fans`).
 #[derive(Clone, Copy)]
 pub struct Block {
     pub verdict: Verdict,

@@ -13,9 +13,9 @@ pub returns-then-hi-plan : goal.returns-then-hi-plan
 unfolding hear_verdict
 returns-then-hi-plan c = band_after _ _ _ _ _ _ (sym c.in_ok-lent_samples.was ∙ c.lent_samples.ensures) (search deciding)
 
-pub returns-else-hi-plan : goal.returns-else-hi-plan
+pub returns : goal.returns
 unfolding hear_verdict
-returns-else-hi-plan c = band_after _ _ _ _ _ _ (sym c.in_ok-lent_samples.was ∙ c.lent_samples.ensures) (search deciding)
+returns c = band_after _ _ _ _ _ _ (sym c.in_ok-lent_samples.was ∙ c.lent_samples.ensures) (search deciding)
 
 pub returns-in_err-lent_samples : goal.returns-in_err-lent_samples
 unfolding hear_verdict

@@ -6,11 +6,11 @@ use Rattle.listening.proofs.inner.block.listen.Goals as goal
 pub beside-requires : goal.beside-requires
 beside-requires c =
     let long = c.hear-heard.auto.output in
-    let room = block_room c.hear-heard.ensures c.in-Accepted.is in
+    let room = block_room c.hear-heard.ensures c.in-Ok.is in
     (room.0, room.1, omega (arith, long, room.2), omega (arith, long, room.3))
 
-pub returns-in-Accepted : goal.returns-in-Accepted
-returns-in-Accepted c = listens_accepted c.hear-heard.ensures c.weigh.ensures c.in-Accepted.is c.beside.ensures
+pub returns-in-Ok : goal.returns-in-Ok
+returns-in-Ok c = listens_accepted c.hear-heard.ensures c.weigh.ensures c.in-Ok.is c.beside.ensures
 
-pub returns-in-Refused : goal.returns-in-Refused
-returns-in-Refused c = listens_refused c.hear-heard.ensures c.weigh.ensures c.in-Refused.is
+pub returns-in-Err : goal.returns-in-Err
+returns-in-Err c = listens_refused c.hear-heard.ensures c.weigh.ensures c.in-Err.is
