@@ -12,7 +12,7 @@ use Rattle.halving.specs.Half.{halving, halved, half}
 use Rattle.radices.specs.Lists.{is_radix, product, first_bad, index_of, first_over, count_of, padded, eq_list}
 use Rattle.sequences.specs.Lists.{first_that, tabulate}
 use Rattle.merging.specs.Merging.{tally, applies, merge, first_rule, rules_up_to, rules, merged_by, merged, letters, sorted}
-use Rattle.plan.specs.Record.{plan_verdict, factors, record_of, refused_plan, accepted_plan, planned, Plans, in_order, sized, is_planned}
+use Rattle.plan.specs.Record.{plan_verdict, factors, record_of, accepted_plan, planned, Plans, in_order, sized, is_planned}
 use Rattle.plan.specs.declared.Planned.{Planned}
 use Rattle.plan.specs.declared.Record.{Record}
 use Rattle.schedule.specs.Buffers.{held_in, alternated, driven}
@@ -26,28 +26,35 @@ use Rattle.floats.specs.declared.complex.Complex.{Complex}
 use Rattle.kernel.specs.Floats.{floats, stage_of}
 use Rattle.ends.specs.Ends.{end_cell, ended, conjugated}
 use Rattle.spectrum.specs.Calls.{forward_verdict, inverse_verdict, lent_verdict}
-use Rattle.power.specs.Power.{power_from, power_verdict, summed}
+use Rattle.power.specs.Power.{power_from, power_verdict}
 use Rattle.transform.specs.Transforms.{Slices, forward_run, forward_of, prepared_of, inverse_run, inverse_of}
-use Rattle.power.specs.declared.Summed.{Summed}
+use Rattle.std.specs.Prelude.{Result, Ok, IsOkAnd}
+use Rattle.refusal.specs.declared.Refusal.{Refusal}
+use Rattle.refusal.specs.Refusal.{granted}
 use Rattle.remainder.specs.Calls.{first_large, run_verdict}
 use Rattle.residues.specs.Residues.{turn, residues, run_of}
 use Rattle.cases.specs.Cases.{+◌, -◌, summed as comes_to, unsummed, spectrum, table, Gives, Sums, Refuses, Transforms, Holds, All}
 
 -- the plan of a list by definition
 abbrev plan_of : List ℕ → Record
-plan_of list = (planned list).plan
+plan_of list = (accepted_plan list).plan
 
 module _ {list : List ℕ} where
   -- what is so of the answer by definition is so of every answer that is promised
-  promised : (P : Planned → Type 0) → P (planned list) → (a : Planned) → Plans list a → P a
+  promised : (P : Result Planned Refusal → Type 0) → P (planned list) → (a : Result Planned Refusal) → Plans list a → P a
   promised P s a p = subst P (sym p.answer) s
 
+  -- likewise of what a list that is accepted answers
+  answered : (P : Planned → Type 0) → planned list ≡ Ok (accepted_plan list) → P (accepted_plan list) → (a : Result Planned Refusal) → Plans list a
+      → IsOkAnd a P
+  answered P e s a p = subst (λ (r : Result Planned Refusal). IsOkAnd r P) (sym (p.answer ∙ e)) s
+
   -- what an accepted run makes, whatever the scratch held
-  sums : {h m w : ℕ} {xs ys : List ℕ} → (plan_of list).half ≡ h → run plain (residues m w h) h (in_use (plan_of list)) (plan_of list).count xs ≡ ys
+  sums : (h m w : ℕ) (xs ys : List ℕ) → (plan_of list).half ≡ h → run plain (residues m w h) h (in_use (plan_of list)) (plan_of list).count xs ≡ ys
       → run_verdict (plan_of list) m w xs h ≡ Accepted
       → ((scratch : List ℕ) → held_in (result_in (plan_of list).count) (run_of (plan_of list) m w (xs, scratch)) ≡ ys)
-      → (a : Planned) → Plans list a → Sums h m w xs ys a.plan
-  sums {h} {m} {w} {xs} {ys} long by v made = promised (λ a. Sums h m w xs ys a.plan)
+      → planned list ≡ Ok (accepted_plan list) → (a : Result Planned Refusal) → Plans list a → IsOkAnd a (λ made. Sums h m w xs ys made.plan)
+  sums h m w xs ys long by v made good = answered (λ a. Sums h m w xs ys a.plan) good
       (record {
         half = long;
         stages = by;
@@ -57,9 +64,9 @@ module _ {list : List ℕ} where
       })
 
   -- a run that is refused whatever it is lent
-  refuses : {h m w n k : ℕ} → (why : Refusal) → (plan_of list).half ≡ h → ((xs : List ℕ) (room : ℕ) → run_verdict (plan_of list) m w xs room ≡ Refused why)
-      → Gives n k (Refused why) → (a : Planned) → Plans list a → Refuses h m w n k a.plan
-  refuses {h} {m} {w} {n} {k} why long v given = promised (λ a. Refuses h m w n k a.plan)
+  refuses : (h m w n k : ℕ) → (why : Refusal) → (plan_of list).half ≡ h → ((xs : List ℕ) (room : ℕ) → run_verdict (plan_of list) m w xs room ≡ Refused why)
+      → Gives n k (Refused why) → planned list ≡ Ok (accepted_plan list) → (a : Result Planned Refusal) → Plans list a → IsOkAnd a (λ made. Refuses h m w n k made.plan)
+  refuses h m w n k why long v given good = answered (λ a. Refuses h m w n k a.plan) good
       (record {
         half = long;
         runs = λ before r after s.
@@ -68,7 +75,7 @@ module _ {list : List ℕ} where
       })
 
   -- what accepted transforms make, whatever the width and the scratch
-  transforms : {samples : List Float} {bins : List Complex} {again : List Float} {sum : Float}
+  transforms : (samples : List Float) (bins : List Complex) (again : List Float) (sum : Float)
       → ((W room : ℕ) → is_width W ≡ true → ltb room (6 * length samples) ≡ false
       → forward_verdict (plan_of list) W samples (2 * length bins) room [] [] ≡ Accepted)
       → ((W : ℕ) (scratch : List Float) → (forward_of (plan_of list) W [] [] samples scratch).0 ≡ flat bins)
@@ -76,8 +83,8 @@ module _ {list : List ℕ} where
       → inverse_verdict (plan_of list) W (flat bins) (length again) room [] [] ≡ Accepted)
       → ((W : ℕ) (scratch : List Float) → (inverse_of (plan_of list) W [] [] (flat bins) scratch (length again)).0 ≡ again)
       → power_verdict (flat bins) 0 (plan_of list).half ≡ Accepted → power_from (flat bins) 0 ((plan_of list).half + 1 - 0) ≡ sum
-      → (a : Planned) → Plans list a → Transforms samples bins again sum a.plan
-  transforms {samples} {bins} {again} {sum} vf f vi i vp e = promised (λ a. Transforms samples bins again sum a.plan)
+      → planned list ≡ Ok (accepted_plan list) → (a : Result Planned Refusal) → Plans list a → IsOkAnd a (λ made. Transforms samples bins again sum made.plan)
+  transforms samples bins again sum vf f vi i vp e good = answered (λ a. Transforms samples bins again sum a.plan) good
       (record {
         forward = λ W width before o l r after s.
             let taken : forward_verdict (plan_of list) W samples (length before.0) (length before.1) [] [] ≡ Accepted
@@ -87,9 +94,7 @@ module _ {list : List ℕ} where
             let taken : inverse_verdict (plan_of list) W (flat bins) (length before.0) (length before.1) [] [] ≡ Accepted
             = rw o (vi W (length before.1) width (le-ltb _ _ l)) in
             (s.answer ∙ taken, ap (λ (b : Slices). b.0) (settled _ _ _ _ _ s taken) ∙ rw o (i W before.1));
-        power = λ a s.
-            let made : a ≡ summed Accepted sum = s.answer ∙ ap₂ summed vp e in
-            (ap (λ (b : Summed). b.verdict) made, ap (λ (b : Summed). b.power) made);
+        power = λ a s. s.answer ∙ ap₂ granted vp e;
       })
 
 -- one after the other
@@ -99,18 +104,18 @@ x & y = (x, y)
 infixr 60 ◌&◌
 -- a run in remainders
 case_sum : Holds (3 ∷ 2 ∷ 2 ∷ [], comes_to 6 7 3 (0 ∷ 1 ∷ 0 ∷ 0 ∷ 0 ∷ 0 ∷ []) (1 ∷ 3 ∷ 2 ∷ 6 ∷ 4 ∷ 5 ∷ []))
-unfolding planned plan_verdict first_bad first_that is_radix first_over product refused_plan accepted_plan record_of factors half halving halved index_of
+unfolding planned plan_verdict first_bad first_that is_radix first_over product accepted_plan record_of factors half halving halved index_of
     tally count_of
     rules rules_up_to first_rule applies merge merged_by merged letters sorted padded is_planned in_order sized eq_list run_verdict first_large result_in driven
     alternated in_use radix stride run stage stage_by tabulate output iteration place plain total read twiddled_in kernel_turn twiddle_turn residues turn
-case_sum = sums {list = 3 ∷ 2 ∷ 2 ∷ []} {h = 6} {m = 7} {w = 3} {xs = 0 ∷ 1 ∷ 0 ∷ 0 ∷ 0 ∷ 0 ∷ []} {ys = 1 ∷ 3 ∷ 2 ∷ 6 ∷ 4 ∷ 5 ∷ []} refl refl refl (λ s. refl)
+case_sum = sums {list = 3 ∷ 2 ∷ 2 ∷ []} 6 7 3 (0 ∷ 1 ∷ 0 ∷ 0 ∷ 0 ∷ 0 ∷ []) (1 ∷ 3 ∷ 2 ∷ 6 ∷ 4 ∷ 5 ∷ []) refl refl refl (λ s. refl) refl
 
 -- a run with a base that does not do
 case_base : Holds (8 ∷ [], unsummed 4 7 3 12 0)
-unfolding planned plan_verdict first_bad first_that is_radix first_over product refused_plan accepted_plan record_of factors half halving halved index_of
+unfolding planned plan_verdict first_bad first_that is_radix first_over product accepted_plan record_of factors half halving halved index_of
     tally count_of
     rules rules_up_to first_rule applies merge merged_by merged letters sorted padded is_planned in_order sized eq_list run_verdict
-case_base = refuses {list = 8 ∷ []} {h = 4} {m = 7} {w = 3} {n = 12} {k = 0} Base refl (λ xs room. refl) (record { number = refl; place = refl })
+case_base = refuses {list = 8 ∷ []} 4 7 3 12 0 Base refl (λ xs room. refl) (record { number = refl; place = refl }) refl
 
 -- the transforms
 case_spectrum : Holds (
@@ -118,30 +123,29 @@ case_spectrum : Holds (
   spectrum (+ 1 ∷ + 2 ∷ + 3 ∷ + 4 ∷ []) (cx (+ 10) (+ 0) ∷ cx (- 2) (+ 2) ∷ cx (- 2) (+ 0) ∷ []) (+ 4 ∷ + 8 ∷ + 12 ∷ + 16 ∷
       []) (+ 112),
 )
-unfolding planned plan_verdict first_bad first_that is_radix first_over product refused_plan accepted_plan record_of factors half halving halved index_of
+unfolding planned plan_verdict first_bad first_that is_radix first_over product accepted_plan record_of factors half halving halved index_of
     tally count_of
     rules rules_up_to first_rule applies merge merged_by merged letters sorted padded is_planned in_order sized eq_list run_verdict first_large result_in driven
     alternated in_use radix stride run stage stage_by tabulate output iteration place plain total read twiddled_in kernel_turn twiddle_turn residues turn
     lent_verdict twiddle_count twiddle_start end_count first_unfit fits forward_of forward_run inverse_of inverse_run prepared_of conjugated ended
     end_cell flat paired
     stage_of floats Turns.turn_of Turns.turn_at Turns.index_of power_verdict power_from add sub mul neg of_int of_bits
-case_spectrum = transforms {list = 4 ∷ []} {samples = + 1 ∷ + 2 ∷ + 3 ∷ + 4 ∷ []} {bins = cx (+ 10) (+ 0) ∷ cx (- 2) (+ 2) ∷ cx (- 2) (+ 0) ∷ []} {again =
-    + 4 ∷ + 8 ∷ + 12 ∷ + 16 ∷ []} {sum = + 112}
-    (λ W room w l. rw (w, l) refl) (λ W s. refl) (λ W room w l. rw (w, l) refl) (λ W s. refl) refl refl
+case_spectrum = transforms {list = 4 ∷ []} (+ 1 ∷ + 2 ∷ + 3 ∷ + 4 ∷ []) (cx (+ 10) (+ 0) ∷ cx (- 2) (+ 2) ∷ cx (- 2) (+ 0) ∷ []) (+ 4 ∷ + 8 ∷ + 12 ∷ + 16 ∷ []) (+ 112)
+    (λ W room w l. rw (w, l) refl) (λ W s. refl) (λ W room w l. rw (w, l) refl) (λ W s. refl) refl refl refl
 
 -- every case of the table
 pub cases_hold : All Holds table
-unfolding planned plan_verdict first_bad first_that is_radix first_over product refused_plan accepted_plan record_of factors half halving halved index_of
+unfolding planned plan_verdict first_bad first_that is_radix first_over product accepted_plan record_of factors half halving halved index_of
     tally count_of
     rules rules_up_to first_rule applies merge merged_by merged letters sorted padded
 cases_hold = promised _ (record { number = refl; place = refl }) & promised _ (record { number = refl; place = refl })
     & promised _ (record { number = refl; place = refl })
     & promised _ (record { number = refl; place = refl })
-    & promised _ (record { verdict = refl; count = refl; radices = refl; merges = refl })
-    & promised _ (record { verdict = refl; count = refl; radices = refl; merges = refl })
-    & promised _ (record { verdict = refl; count = refl; radices = refl; merges = refl })
-    & promised _ (record { verdict = refl; count = refl; radices = refl; merges = refl })
-    & promised _ (record { verdict = refl; count = refl; radices = refl; merges = refl })
+    & promised _ (record { count = refl; radices = refl; merges = refl })
+    & promised _ (record { count = refl; radices = refl; merges = refl })
+    & promised _ (record { count = refl; radices = refl; merges = refl })
+    & promised _ (record { count = refl; radices = refl; merges = refl })
+    & promised _ (record { count = refl; radices = refl; merges = refl })
     & case_sum
     & case_base
     & case_spectrum

@@ -1,10 +1,10 @@
 -- The twelve proved cases as one table, and what it is for a case to hold: it speaks of whatever answer the promises admit. Assumes nothing.
-use Rattle.std.specs.Prelude.{ℕ, ◌*◌, ◌≤◌, ◌≡◌, true, List, [], ◌∷◌, map, Float, pos, neg_ℤ, length, replicate}
+use Rattle.std.specs.Prelude.{ℕ, ◌*◌, ◌≤◌, ◌≡◌, true, List, [], ◌∷◌, map, Float, pos, neg_ℤ, length, replicate, Result, Ok, IsOkAnd, IsErrAnd}
 use Rattle.std.specs.Float.{binary32}
 use Rattle.std.specs.Float.Ieee.{of_int}
 use Rattle.refusal.specs.Refusal.{number_in, place_in}
 use Rattle.refusal.specs.Refusal.{Verdict}
-use Rattle.refusal.specs.Refusal.{Accepted}
+use Rattle.refusal.specs.Refusal.{Accepted, Refused}
 use Rattle.counts.specs.Counts.{result_in}
 use Rattle.radices.specs.Lists.{padded}
 use Rattle.merging.specs.Merging.{letter, marked}
@@ -22,7 +22,7 @@ use Rattle.floats.specs.declared.complex.Complex.{Complex}
 use Rattle.spectrum.specs.Calls.{Forwards, Inverts}
 use Rattle.power.specs.Power.{Powers}
 use Rattle.transform.specs.Transforms.{Slices}
-use Rattle.power.specs.declared.Summed.{Summed}
+use Rattle.refusal.specs.declared.Refusal.{Refusal}
 use Rattle.remainder.specs.Calls.{Runs}
 use Rattle.residues.specs.Residues.{residues}
 
@@ -79,7 +79,6 @@ pub record Gives (n k : ℕ) (v : Verdict) : Type 0 where
 
 -- an answer accepts its list, with the radices rs and the merges ms, unused entries 0
 pub record Makes (rs : List ℕ) (ms : List Rule) (a : Planned) : Type 0 where
-  pub verdict : a.verdict ≡ Accepted
   pub count : a.plan.count ≡ length rs
   pub radices : a.plan.radices ≡ padded rs
   pub merges : a.merges ≡ marked (map letter ms)
@@ -103,19 +102,19 @@ pub record Transforms (samples : List Float) (bins : List Complex) (again : List
       → (r : Verdict) (after : Slices) → Forwards p W [] [] samples before r after → (r ≡ Accepted) × (after.0 ≡ flat bins)
   pub inverse : (W : ℕ) → is_width W ≡ true → (before : Slices) → length before.0 ≡ length again → 6 * length samples ≤ length before.1
       → (r : Verdict) (after : Slices) → Inverts p W [] [] (flat bins) before r after → (r ≡ Accepted) × (after.0 ≡ again)
-  pub power : (a : Summed) → Powers (flat bins) 0 p.half a → (a.verdict ≡ Accepted) × (a.power ≡ total)
+  pub power : (a : Result Float Refusal) → Powers (flat bins) 0 p.half a → a ≡ Ok total
 
 -- what an outcome says of an answer to planning
-abbrev pub Says : Outcome → Planned → Type 0
-Says (refused number place) a = Gives number place a.verdict
-Says (planned radices merges) a = Makes radices merges a
-Says (summed h m w xs ys) a = Sums h m w xs ys a.plan
-Says (unsummed h m w number place) a = Refuses h m w number place a.plan
-Says (spectrum samples bins again power) a = Transforms samples bins again power a.plan
+abbrev pub Says : Outcome → Result Planned Refusal → Type 0
+Says (refused number place) a = IsErrAnd a (λ why. Gives number place (Refused why))
+Says (planned radices merges) a = IsOkAnd a (Makes radices merges)
+Says (summed h m w xs ys) a = IsOkAnd a (λ made. Sums h m w xs ys made.plan)
+Says (unsummed h m w number place) a = IsOkAnd a (λ made. Refuses h m w number place made.plan)
+Says (spectrum samples bins again power) a = IsOkAnd a (λ made. Transforms samples bins again power made.plan)
 
 -- it is so of every answer that planning the list promises
 abbrev pub Holds : Case → Type 0
-Holds c = (a : Planned) → Plans c.0 a → Says c.1 a
+Holds c = (a : Result Planned Refusal) → Plans c.0 a → Says c.1 a
 
 -- every case of a list has the property P
 abbrev pub All : (Case → Type 0) → List Case → Type 0
