@@ -12,9 +12,8 @@ use Rattle.end_twiddles.specs.declared.inner.ends.Direction.TheVariants.{Forward
 use Rattle.kernel.specs.Floats.{stage_of as stage_words}
 use Rattle.stage.specs.Calls as Floats
 use Rattle.spectrum.specs.Calls.{forward_verdict, inverse_verdict}
-use Rattle.power.specs.Power.{power_from, power_verdict, summed}
+use Rattle.power.specs.Power.{power_from, power_verdict}
 use Rattle.transform.specs.Transforms.{forward_of, inverse_of, Slices as Buffers}
-use Rattle.power.specs.declared.Summed.{Summed as Sum}
 use Rattle.hear.specs.Hear.{decision_number, hear_verdict, heard}
 use Rattle.hear.specs.declared.Heard.{Heard as Hearing}
 use Rattle.pcm.specs.Samples.{samples_at}
@@ -34,12 +33,13 @@ use Rattle.ladlespindle.specs.declared.Wav.{Wav}
 abbrev pub answered : Verdict → Answer
 answered v = record { number = number_in v; place = place_in v }
 
--- a sum with its verdict as two numbers
+-- a sum with the refusal as two numbers
 abbrev pub power_as : (number place : ℕ) → Float → Summed
 power_as n k x = record { number = n; place = k; power = x }
 
-abbrev pub powered : Sum → Summed
-powered s = power_as (number_in s.verdict) (place_in s.verdict) s.power
+-- by a verdict: the sum, +0 on a refusal
+abbrev pub powered : Verdict → Float → Summed
+powered v x = power_as (number_in v) (place_in v) (left v x +0)
 
 -- what a call with verdict v promises of its answer r, and of what stands afterwards in what was lent
 pub record Gives {A : Type 0} (v : Verdict) (made lent : A) (r : Answer) (after : A) : Type 0 where
@@ -84,7 +84,7 @@ GivesSamples p W stage end input before r after =
 
 -- what `ladlespindle_power` promises of its answer: the refusal as two numbers, and the sum
 pub record GivesPower (spectrum : List Float) (lo hi : ℕ) (r : Summed) : Type 0 where
-  pub answer : r ≡ powered (summed (power_verdict spectrum lo hi) (power_from spectrum lo (hi + 1 - lo)))
+  pub answer : r ≡ powered (power_verdict spectrum lo hi) (power_from spectrum lo (hi + 1 - lo))
 
 -- ---- the bees
 

@@ -4,15 +4,17 @@
 #![tactic(auto)]
 
 ghost use Rattle.std.specs.Prelude.{◌≡◌, get_or};
-ghost use Rattle.ladlespindle.specs.Exports.{GivesVersion, GivesInterface, GivesPlanned, GivesPlan, GivesNumber, GivesPlace, GivesLength, GivesHalf, GivesStages, GivesMerges, GivesRadix, GivesLetter, GivesStageTwiddles, GivesEndTwiddles, GivesResult, GivesAcceptance, GivesScaling};
+ghost use Rattle.ladlespindle.specs.Exports.{GivesVersion, GivesInterface, GivesPlanned, GivesPlan, GivesNumber, GivesPlace, GivesLength, GivesHalf, GivesStages, GivesMerges, GivesRadix, GivesLetter, GivesStageTwiddles, GivesEndTwiddles, GivesResult, GivesAcceptance, GivesScaling, planned_or_none, scaling_as};
 ghost use Rattle.refusal.specs.Refusal.{left};
 ghost use Rattle.counts.specs.Counts.{result_in, buffer_number};
-ghost use Rattle.ladlespindle.specs.Calls.{GivesTurn, GivesForward, GivesInverse, GivesStage, GivesSpectrum, GivesSamples, GivesPower, GivesHeard, crossed_wav, GivesMeasured, GivesRead, GivesWritten, GivesRemainderStage, GivesRemainderRun};
+ghost use Rattle.ladlespindle.specs.Calls.{answered, GivesTurn, GivesForward, GivesInverse, GivesStage, GivesSpectrum, GivesSamples, GivesPower, GivesHeard, crossed_wav, GivesMeasured, GivesRead, GivesWritten, GivesRemainderStage, GivesRemainderRun};
 
 use counts::inner::stages::result_in;
+use merging::Merges;
 use plan::Record;
 use radices::Radices;
-use refusal::Verdict;
+use refusal::{Verdict, number, place};
+use scaling::Scaled;
 use turn::inner::words::words_of;
 
 // What planning answers, with the refusal as two numbers.
@@ -93,6 +95,46 @@ pub struct Ran {
     pub buffer: u32,
 }
 
+impl From<Verdict> for Answer {
+    ghost from_gives = { λ verdict answer. answer ≡ answered verdict };
+
+    fn from(verdict: Verdict) -> Answer {
+        Answer {
+            number: number(verdict),
+            place: place(verdict),
+        }
+    }
+}
+
+// What stands for the plan and the merges of a list that is refused.
+const NO_PLAN: plan::Planned = plan::Planned {
+    plan: Record {
+        n: 0,
+        half: 0,
+        count: 0,
+        radices: [0; 13],
+    },
+    merges: Merges {
+        count: 0,
+        letters: [0; 13],
+    },
+};
+
+// What stands for the scaling of lists that are refused.
+const NO_SCALING: Scaled = Scaled {
+    p: 0,
+    in_product: 0,
+    out_product: 0,
+    in_list: Radices {
+        count: 0,
+        entries: [0; 13],
+    },
+    out_list: Radices {
+        count: 0,
+        entries: [0; 13],
+    },
+};
+
 // The version: 10000 * major + 100 * minor + patch.
 #[unsafe(no_mangle)]
 pub extern "C" fn ladlespindle_version() -> u32
@@ -114,13 +156,17 @@ pub extern "C" fn ladlespindle_interface() -> u32
 pub extern "C" fn ladlespindle_plan_list(list: &[u8]) -> Planned
     ensures { GivesPlanned list.now result }
 {
-    let planned = plan::plan(list);
-    let verdict = planned.verdict;
-    let record = planned.plan;
-    Planned {
-        number: verdict.number(),
-        place: verdict.place(),
-        plan: record,
+    match plan::plan(list) {
+        Ok(made) => Planned {
+            number: 0,
+            place: 0,
+            plan: made.plan,
+        },
+        Err(why) => Planned {
+            number: why.number(),
+            place: why.place(),
+            plan: NO_PLAN.plan,
+        },
     }
 }
 
@@ -129,7 +175,7 @@ pub extern "C" fn ladlespindle_plan_list(list: &[u8]) -> Planned
 pub extern "C" fn ladlespindle_plan(list: &[u8]) -> Record
     ensures { GivesPlan list.now result }
 {
-    plan::plan(list).plan
+    planned(list).plan
 }
 
 // The number of a list's refusal, 0 for an accepted list.
@@ -137,8 +183,10 @@ pub extern "C" fn ladlespindle_plan(list: &[u8]) -> Record
 pub extern "C" fn ladlespindle_refusal_number(list: &[u8]) -> u32
     ensures { GivesNumber list.now result }
 {
-    let verdict = plan::plan(list).verdict;
-    verdict.number()
+    match plan::plan(list) {
+        Ok(_) => 0,
+        Err(why) => why.number(),
+    }
 }
 
 // The place of a list's refusal, 0 for an accepted list.
@@ -146,8 +194,10 @@ pub extern "C" fn ladlespindle_refusal_number(list: &[u8]) -> u32
 pub extern "C" fn ladlespindle_refusal_place(list: &[u8]) -> usize
     ensures { GivesPlace list.now result }
 {
-    let verdict = plan::plan(list).verdict;
-    verdict.place()
+    match plan::plan(list) {
+        Ok(_) => 0,
+        Err(why) => why.place(),
+    }
 }
 
 // The length n of a list's plan, 0 on a refusal.
@@ -155,7 +205,7 @@ pub extern "C" fn ladlespindle_refusal_place(list: &[u8]) -> usize
 pub extern "C" fn ladlespindle_n(list: &[u8]) -> usize
     ensures { GivesLength list.now result }
 {
-    plan::plan(list).plan.n
+    planned(list).plan.n
 }
 
 // Half of that length, 0 on a refusal.
@@ -163,7 +213,7 @@ pub extern "C" fn ladlespindle_n(list: &[u8]) -> usize
 pub extern "C" fn ladlespindle_half(list: &[u8]) -> usize
     ensures { GivesHalf list.now result }
 {
-    plan::plan(list).plan.half
+    planned(list).plan.half
 }
 
 // How many stages a list's plan has, 0 on a refusal.
@@ -171,7 +221,7 @@ pub extern "C" fn ladlespindle_half(list: &[u8]) -> usize
 pub extern "C" fn ladlespindle_stages(list: &[u8]) -> usize
     ensures { GivesStages list.now result }
 {
-    plan::plan(list).plan.count
+    planned(list).plan.count
 }
 
 // The radix of a stage, counted from 0; 0 past the last stage and on a refusal.
@@ -179,9 +229,7 @@ pub extern "C" fn ladlespindle_stages(list: &[u8]) -> usize
 pub extern "C" fn ladlespindle_radix(list: &[u8], stage: usize) -> u8
     ensures { GivesRadix list.now stage result }
 {
-    let plan = plan::plan(list).plan;
-    let radices = plan.radices;
-    entry(radices, stage)
+    entry(planned(list).plan.radices, stage)
 }
 
 // How many merges led to a list's plan, 0 on a refusal.
@@ -189,7 +237,7 @@ pub extern "C" fn ladlespindle_radix(list: &[u8], stage: usize) -> u8
 pub extern "C" fn ladlespindle_merges(list: &[u8]) -> usize
     ensures { GivesMerges list.now result }
 {
-    plan::plan(list).merges.count
+    planned(list).merges.count
 }
 
 // The letter of a merge, counted from 0; 0 past the last merge and on a refusal.
@@ -197,9 +245,7 @@ pub extern "C" fn ladlespindle_merges(list: &[u8]) -> usize
 pub extern "C" fn ladlespindle_merge_letter(list: &[u8], index: usize) -> u8
     ensures { GivesLetter list.now index result }
 {
-    let merges = plan::plan(list).merges;
-    let letters = merges.letters;
-    entry(letters, index)
+    entry(planned(list).merges.letters, index)
 }
 
 // How many twiddles the stages of a list's plan have together, 0 on a refusal.
@@ -207,7 +253,7 @@ pub extern "C" fn ladlespindle_merge_letter(list: &[u8], index: usize) -> u8
 pub extern "C" fn ladlespindle_stage_twiddles(list: &[u8]) -> usize
     ensures { GivesStageTwiddles list.now result }
 {
-    counts::stage_twiddles(plan::plan(list).plan).count
+    counts::stage_twiddles(planned(list).plan).unwrap_or(0)
 }
 
 // How many end twiddles a list's plan has, 0 on a refusal.
@@ -215,7 +261,7 @@ pub extern "C" fn ladlespindle_stage_twiddles(list: &[u8]) -> usize
 pub extern "C" fn ladlespindle_end_twiddles(list: &[u8]) -> usize
     ensures { GivesEndTwiddles list.now result }
 {
-    counts::end_twiddles(plan::plan(list).plan).count
+    counts::end_twiddles(planned(list).plan).unwrap_or(0)
 }
 
 // The buffer that holds the result of a run: 0 for Data and on a refusal, 1 for Scratchpad.
@@ -223,8 +269,10 @@ pub extern "C" fn ladlespindle_end_twiddles(list: &[u8]) -> usize
 pub extern "C" fn ladlespindle_result(list: &[u8]) -> u32
     ensures { GivesResult list.now result }
 {
-    let buffer = counts::result(plan::plan(list).plan).buffer;
-    buffer.number()
+    match counts::result(planned(list).plan) {
+        Ok(buffer) => buffer.number(),
+        Err(_) => 0,
+    }
 }
 
 // Whether some list plans to this record: 1 or 0.
@@ -240,18 +288,9 @@ pub extern "C" fn ladlespindle_accepts(plan: Record) -> u32
 pub extern "C" fn ladlespindle_scale(in_list: &[u8], out_list: &[u8]) -> Scaling
     ensures { GivesScaling in_list.now out_list.now result }
 {
-    let scaled = scaling::scale(in_list, out_list);
-    let verdict = scaled.verdict;
-    let grown_in = scaled.in_list;
-    let grown_out = scaled.out_list;
-    Scaling {
-        number: verdict.number(),
-        place: verdict.place(),
-        p: scaled.p,
-        in_product: scaled.in_product,
-        out_product: scaled.out_product,
-        in_list: grown_in,
-        out_list: grown_out,
+    match scaling::scale(in_list, out_list) {
+        Ok(scaled) => scaling_as(0, 0, scaled),
+        Err(why) => scaling_as(why.number(), why.place(), NO_SCALING),
     }
 }
 
@@ -260,11 +299,8 @@ pub extern "C" fn ladlespindle_scale(in_list: &[u8], out_list: &[u8]) -> Scaling
 pub extern "C" fn ladlespindle_turn(t: u32, l: u32) -> TurnWords
     ensures { GivesTurn t l result }
 {
-    let turned = turn::turn_of(t, l);
-    let turn = turned.turn;
-    let verdict = turned.verdict;
-    match verdict {
-        Verdict::Accepted => {
+    match turn::turn_of(t, l) {
+        Ok(turn) => {
             let words = words_of(turn);
             TurnWords {
                 number: 0,
@@ -273,7 +309,7 @@ pub extern "C" fn ladlespindle_turn(t: u32, l: u32) -> TurnWords
                 im: words.im,
             }
         }
-        Verdict::Refused(why) => TurnWords {
+        Err(why) => TurnWords {
             number: why.number(),
             place: why.place(),
             re: 0.0,
@@ -292,11 +328,7 @@ pub extern "C" fn ladlespindle_fill_forward(
 ) -> Answer
     ensures { GivesForward plan width (stage_twiddles.old, end_twiddles.old) result (stage_twiddles.new, end_twiddles.new) }
 {
-    let verdict = twiddle::fill_forward(plan, width, stage_twiddles, end_twiddles);
-    Answer {
-        number: verdict.number(),
-        place: verdict.place(),
-    }
+    Answer::from(twiddle::fill_forward(plan, width, stage_twiddles, end_twiddles))
 }
 
 // The same for the inverse transform.
@@ -309,11 +341,7 @@ pub extern "C" fn ladlespindle_fill_inverse(
 ) -> Answer
     ensures { GivesInverse plan width (stage_twiddles.old, end_twiddles.old) result (stage_twiddles.new, end_twiddles.new) }
 {
-    let verdict = twiddle::fill_inverse(plan, width, stage_twiddles, end_twiddles);
-    Answer {
-        number: verdict.number(),
-        place: verdict.place(),
-    }
+    Answer::from(twiddle::fill_inverse(plan, width, stage_twiddles, end_twiddles))
 }
 
 // Stage `number` of a plan in floats, with its own twiddles packed for a width.
@@ -328,11 +356,7 @@ pub extern "C" fn ladlespindle_stage(
 ) -> Answer
     ensures { GivesStage plan number width input.now output.old twiddles.now result output.new }
 {
-    let verdict = stage::stage(plan, number, width, input, output, twiddles);
-    Answer {
-        number: verdict.number(),
-        place: verdict.place(),
-    }
+    Answer::from(stage::stage(plan, number, width, input, output, twiddles))
 }
 
 // The spectrum of n samples.
@@ -348,7 +372,7 @@ pub extern "C" fn ladlespindle_forward(
 ) -> Answer
     ensures { GivesSpectrum plan width stage_twiddles.now end_twiddles.now input.now (output.old, scratch.old) result (output.new, scratch.new) }
 {
-    let verdict = spectrum::forward(
+    Answer::from(spectrum::forward(
         plan,
         width,
         input,
@@ -356,11 +380,7 @@ pub extern "C" fn ladlespindle_forward(
         scratch,
         stage_twiddles,
         end_twiddles,
-    );
-    Answer {
-        number: verdict.number(),
-        place: verdict.place(),
-    }
+    ))
 }
 
 // The n samples of a spectrum, times n.
@@ -376,7 +396,7 @@ pub extern "C" fn ladlespindle_inverse(
 ) -> Answer
     ensures { GivesSamples plan width stage_twiddles.now end_twiddles.now input.now (output.old, scratch.old) result (output.new, scratch.new) }
 {
-    let verdict = spectrum::inverse(
+    Answer::from(spectrum::inverse(
         plan,
         width,
         input,
@@ -384,11 +404,7 @@ pub extern "C" fn ladlespindle_inverse(
         scratch,
         stage_twiddles,
         end_twiddles,
-    );
-    Answer {
-        number: verdict.number(),
-        place: verdict.place(),
-    }
+    ))
 }
 
 // The power of bins lo to hi of a spectrum.
@@ -396,12 +412,17 @@ pub extern "C" fn ladlespindle_inverse(
 pub extern "C" fn ladlespindle_power(spectrum: &[f32], lo: usize, hi: usize) -> Summed
     ensures { GivesPower spectrum.now lo hi result }
 {
-    let summed = power::power(spectrum, lo, hi);
-    let verdict = summed.verdict;
-    Summed {
-        number: verdict.number(),
-        place: verdict.place(),
-        power: summed.power,
+    match power::power(spectrum, lo, hi) {
+        Ok(power) => Summed {
+            number: 0,
+            place: 0,
+            power,
+        },
+        Err(why) => Summed {
+            number: why.number(),
+            place: why.place(),
+            power: 0.0,
+        },
     }
 }
 
@@ -433,13 +454,11 @@ pub extern "C" fn ladlespindle_hear(
         hi,
         threshold,
     );
-    let verdict = heard.verdict;
-    let decision = heard.decision;
     Heard {
-        number: verdict.number(),
-        place: verdict.place(),
+        number: number(heard.verdict),
+        place: place(heard.verdict),
         power: heard.power,
-        decision: decision.number(),
+        decision: heard.decision.number(),
     }
 }
 
@@ -464,11 +483,7 @@ pub extern "C" fn ladlespindle_wav_read(file: &[u8], output: &mut [f32]) -> Wav
 pub extern "C" fn ladlespindle_wav_write(rate: u32, samples: &[f32], file: &mut [u8]) -> Answer
     ensures { GivesWritten rate samples.now file.old result file.new }
 {
-    let verdict = wav::write(rate, samples, file);
-    Answer {
-        number: verdict.number(),
-        place: verdict.place(),
-    }
+    Answer::from(wav::write(rate, samples, file))
 }
 
 // Stage `number` of a plan in remainders modulo m, written to the other buffer.
@@ -483,11 +498,7 @@ pub extern "C" fn ladlespindle_remainder_stage(
 ) -> Answer
     ensures { GivesRemainderStage plan number m w input.now other.old result other.new }
 {
-    let verdict = remainder::stage(plan, number, m, w, input, other);
-    Answer {
-        number: verdict.number(),
-        place: verdict.place(),
-    }
+    Answer::from(remainder::stage(plan, number, m, w, input, other))
 }
 
 // A run of a plan in remainders modulo m, and the buffer that holds its result.
@@ -503,9 +514,31 @@ pub extern "C" fn ladlespindle_remainder_run(
 {
     let verdict = remainder::run(plan, m, w, data, scratch);
     Ran {
-        number: verdict.number(),
-        place: verdict.place(),
+        number: number(verdict),
+        place: place(verdict),
         buffer: holder(verdict, plan.count),
+    }
+}
+
+// The plan of a list and the merges that led to it, every number 0 on a refusal.
+fn planned(list: &[u8]) -> plan::Planned
+    ensures { result ≡ planned_or_none list.now }
+{
+    plan::plan(list).unwrap_or(NO_PLAN)
+}
+
+// Scaling's answer beside a verdict's two numbers.
+fn scaling_as(number: u32, place: usize, scaled: Scaled) -> Scaling
+    ensures { result ≡ scaling_as number place scaled }
+{
+    Scaling {
+        number,
+        place,
+        p: scaled.p,
+        in_product: scaled.in_product,
+        out_product: scaled.out_product,
+        in_list: scaled.in_list,
+        out_list: scaled.out_list,
     }
 }
 
@@ -514,8 +547,8 @@ fn holder(verdict: Verdict, count: usize) -> u32
     ensures { result ≡ left verdict (buffer_number (result_in count)) 0 }
 {
     match verdict {
-        Verdict::Accepted => result_in(count).number(),
-        Verdict::Refused(_) => 0,
+        Ok(()) => result_in(count).number(),
+        Err(_) => 0,
     }
 }
 

@@ -368,8 +368,8 @@ fn hear_in(
 // Whether a verdict accepts; what it refuses is told.
 fn is_accepted(rt: &HostRuntime, verdict: Verdict, what: &[u8]) -> bool {
     match verdict {
-        Verdict::Accepted => true,
-        Verdict::Refused(why) => {
+        Ok(()) => true,
+        Err(why) => {
             refused(rt, why.number() as usize, why.place(), what);
             false
         }

@@ -21,7 +21,7 @@ pub fn report(input: &[u8]) -> Text
     let answer = plan::plan(&list[..count]);
     let verdict = answer.verdict;
     match verdict {
-        Verdict::Accepted => plan_lines(answer.plan, answer.merges),
-        Verdict::Refused(why) => refusal_line(why),
+        Ok(()) => plan_lines(answer.plan, answer.merges),
+        Err(why) => refusal_line(why),
     }
 }

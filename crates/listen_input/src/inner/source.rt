@@ -273,13 +273,13 @@ fn shown(source: &mut Source, window: &mut [u8], rate: u32, left: usize) -> Got
 fn at_samples(rt: &HostRuntime, w: Walk, at: usize, total: usize) -> Start {
     let verdict = w.verdict;
     match verdict {
-        Verdict::Accepted => Start {
+        Ok(()) => Start {
             rate: w.rate as usize,
             samples: w.samples,
             at: w.at,
             total,
         },
-        Verdict::Refused(_) => {
+        Err(_) => {
             told(rt, w, at, total);
             nothing()
         }
