@@ -175,7 +175,7 @@ pub extern "C" fn ladlespindle_plan_list(list: &[u8]) -> Planned
 pub extern "C" fn ladlespindle_plan(list: &[u8]) -> Record
     ensures { GivesPlan list.now result }
 {
-    planned(list).plan
+    made_of(list).plan
 }
 
 // The number of a list's refusal, 0 for an accepted list.
@@ -205,7 +205,7 @@ pub extern "C" fn ladlespindle_refusal_place(list: &[u8]) -> usize
 pub extern "C" fn ladlespindle_n(list: &[u8]) -> usize
     ensures { GivesLength list.now result }
 {
-    planned(list).plan.n
+    made_of(list).plan.n
 }
 
 // Half of that length, 0 on a refusal.
@@ -213,7 +213,7 @@ pub extern "C" fn ladlespindle_n(list: &[u8]) -> usize
 pub extern "C" fn ladlespindle_half(list: &[u8]) -> usize
     ensures { GivesHalf list.now result }
 {
-    planned(list).plan.half
+    made_of(list).plan.half
 }
 
 // How many stages a list's plan has, 0 on a refusal.
@@ -221,7 +221,7 @@ pub extern "C" fn ladlespindle_half(list: &[u8]) -> usize
 pub extern "C" fn ladlespindle_stages(list: &[u8]) -> usize
     ensures { GivesStages list.now result }
 {
-    planned(list).plan.count
+    made_of(list).plan.count
 }
 
 // The radix of a stage, counted from 0; 0 past the last stage and on a refusal.
@@ -229,7 +229,7 @@ pub extern "C" fn ladlespindle_stages(list: &[u8]) -> usize
 pub extern "C" fn ladlespindle_radix(list: &[u8], stage: usize) -> u8
     ensures { GivesRadix list.now stage result }
 {
-    entry(planned(list).plan.radices, stage)
+    entry(made_of(list).plan.radices, stage)
 }
 
 // How many merges led to a list's plan, 0 on a refusal.
@@ -237,7 +237,7 @@ pub extern "C" fn ladlespindle_radix(list: &[u8], stage: usize) -> u8
 pub extern "C" fn ladlespindle_merges(list: &[u8]) -> usize
     ensures { GivesMerges list.now result }
 {
-    planned(list).merges.count
+    made_of(list).merges.count
 }
 
 // The letter of a merge, counted from 0; 0 past the last merge and on a refusal.
@@ -245,7 +245,7 @@ pub extern "C" fn ladlespindle_merges(list: &[u8]) -> usize
 pub extern "C" fn ladlespindle_merge_letter(list: &[u8], index: usize) -> u8
     ensures { GivesLetter list.now index result }
 {
-    entry(planned(list).merges.letters, index)
+    entry(made_of(list).merges.letters, index)
 }
 
 // How many twiddles the stages of a list's plan have together, 0 on a refusal.
@@ -253,7 +253,7 @@ pub extern "C" fn ladlespindle_merge_letter(list: &[u8], index: usize) -> u8
 pub extern "C" fn ladlespindle_stage_twiddles(list: &[u8]) -> usize
     ensures { GivesStageTwiddles list.now result }
 {
-    counts::stage_twiddles(planned(list).plan).unwrap_or(0)
+    counts::stage_twiddles(made_of(list).plan).unwrap_or(0)
 }
 
 // How many end twiddles a list's plan has, 0 on a refusal.
@@ -261,7 +261,7 @@ pub extern "C" fn ladlespindle_stage_twiddles(list: &[u8]) -> usize
 pub extern "C" fn ladlespindle_end_twiddles(list: &[u8]) -> usize
     ensures { GivesEndTwiddles list.now result }
 {
-    counts::end_twiddles(planned(list).plan).unwrap_or(0)
+    counts::end_twiddles(made_of(list).plan).unwrap_or(0)
 }
 
 // The buffer that holds the result of a run: 0 for Data and on a refusal, 1 for Scratchpad.
@@ -269,7 +269,7 @@ pub extern "C" fn ladlespindle_end_twiddles(list: &[u8]) -> usize
 pub extern "C" fn ladlespindle_result(list: &[u8]) -> u32
     ensures { GivesResult list.now result }
 {
-    match counts::result(planned(list).plan) {
+    match counts::result(made_of(list).plan) {
         Ok(buffer) => buffer.number(),
         Err(_) => 0,
     }
@@ -521,7 +521,7 @@ pub extern "C" fn ladlespindle_remainder_run(
 }
 
 // The plan of a list and the merges that led to it, every number 0 on a refusal.
-fn planned(list: &[u8]) -> plan::Planned
+fn made_of(list: &[u8]) -> plan::Planned
     ensures { result ≡ planned_or_none list.now }
 {
     plan::plan(list).unwrap_or(NO_PLAN)
@@ -556,10 +556,9 @@ fn holder(verdict: Verdict, count: usize) -> u32
 fn as_numbers(found: wav::Wav) -> Wav
     ensures { result ≡ crossed_wav found }
 {
-    let verdict = found.verdict;
     Wav {
-        number: verdict.number(),
-        place: verdict.place(),
+        number: number(found.verdict),
+        place: place(found.verdict),
         rate: found.rate,
         samples: found.samples,
     }

@@ -1,7 +1,7 @@
--- `ladlespindle_half` meets its promise: the half in the answer of planning. Assumes nothing.
+-- `ladlespindle_half` meets its promise: a field of what planning makes. Assumes nothing.
 use Rattle.sequences.proofs.Basics.{ap}
 use Rattle.plan.specs.declared.Planned.{Planned}
 use Rattle.ladlespindle.proofs.ladlespindle_half.Goals as goal
 
 pub returns : goal.returns
-returns c = record { answer = ap (λ (a : Planned). a.plan.half) c.plan.ensures.answer }
+returns c = record { answer = ap (λ (a : Planned). a.plan.half) c.made_of.ensures }

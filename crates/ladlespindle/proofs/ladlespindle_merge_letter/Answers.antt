@@ -1,7 +1,7 @@
--- `ladlespindle_merge_letter` meets its promise: an entry of the letters that planning answers. Assumes nothing.
+-- `ladlespindle_merge_letter` meets its promise: an entry of what planning makes. Assumes nothing.
 use Rattle.sequences.proofs.Basics.{ap, ◌∙◌, get_or}
 use Rattle.plan.specs.declared.Planned.{Planned}
 use Rattle.ladlespindle.proofs.ladlespindle_merge_letter.Goals as goal
 
 pub returns : goal.returns
-returns c = let at = c.args in record { answer = c.entry.ensures ∙ ap (λ (a : Planned). get_or a.merges.letters at.index 0) c.plan.ensures.answer }
+returns c = let at = c.args in record { answer = c.entry.ensures ∙ ap (λ (a : Planned). get_or a.merges.letters at.index 0) c.made_of.ensures }

@@ -1,7 +1,7 @@
--- `ladlespindle_merges` meets its promise: the count of merges in the answer of planning. Assumes nothing.
+-- `ladlespindle_merges` meets its promise: a field of what planning makes. Assumes nothing.
 use Rattle.sequences.proofs.Basics.{ap}
 use Rattle.plan.specs.declared.Planned.{Planned}
 use Rattle.ladlespindle.proofs.ladlespindle_merges.Goals as goal
 
 pub returns : goal.returns
-returns c = record { answer = ap (λ (a : Planned). a.merges.count) c.plan.ensures.answer }
+returns c = record { answer = ap (λ (a : Planned). a.merges.count) c.made_of.ensures }

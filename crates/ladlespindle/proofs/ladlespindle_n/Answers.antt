@@ -1,7 +1,7 @@
--- `ladlespindle_n` meets its promise: the length in the answer of planning. Assumes nothing.
+-- `ladlespindle_n` meets its promise: a field of what planning makes. Assumes nothing.
 use Rattle.sequences.proofs.Basics.{ap}
 use Rattle.plan.specs.declared.Planned.{Planned}
 use Rattle.ladlespindle.proofs.ladlespindle_n.Goals as goal
 
 pub returns : goal.returns
-returns c = record { answer = ap (λ (a : Planned). a.plan.n) c.plan.ensures.answer }
+returns c = record { answer = ap (λ (a : Planned). a.plan.n) c.made_of.ensures }

@@ -1,12 +1,12 @@
 -- `ladlespindle::ladlespindle_plan_list` meets its contract. Assumes nothing.
-use Rattle.sequences.proofs.Basics.{ap, ap₂, ◌∙◌, ℕ}
-use Rattle.refusal.specs.Refusal.{number_in, place_in}
-use Rattle.plan.specs.declared.Planned.{Planned}
-use Rattle.ladlespindle.specs.Exports.{planned_as}
+use Rattle.sequences.proofs.Basics.{refl, subst}
+use Rattle.plan.specs.Record.{Plans}
+use Rattle.ladlespindle.proofs.Answers.{list_made, list_refused}
 use Rattle.ladlespindle.proofs.ladlespindle_plan_list.Goals as goal
 
-pub returns : goal.returns
-returns c = let s = c.plan-planned in record {
-  answer = ap₂ (λ (n k : ℕ). planned_as n k s.result.plan) c.number.ensures.answer c.place.ensures.answer
-      ∙ ap (λ (a : Planned). planned_as (number_in a.verdict) (place_in a.verdict) a.plan) s.ensures.answer;
-}
+pub returns-in-Ok : goal.returns-in-Ok
+returns-in-Ok c = list_made c.args.list.now _ (subst (Plans c.args.list.now) c.in-Ok.is c.plan.ensures)
+
+pub returns-in-Err : goal.returns-in-Err
+returns-in-Err c = list_refused c.args.list.now _ _ _ _ (subst (Plans c.args.list.now) c.in-Err.is c.plan.ensures) c.number.ensures.answer
+    c.place.ensures.answer refl

@@ -1,10 +1,12 @@
 -- `ladlespindle::ladlespindle_power` meets its contract. Assumes nothing.
-use Rattle.sequences.proofs.Basics.{ap, ap₂, ◌∙◌, ℕ}
-use Rattle.ladlespindle.specs.Calls.{power_as, powered}
+use Rattle.sequences.proofs.Basics.{subst}
+use Rattle.power.specs.Power.{Powers}
+use Rattle.ladlespindle.proofs.Crossing.{power_accepted, power_refused}
 use Rattle.ladlespindle.proofs.ladlespindle_power.Goals as goal
 
-pub returns : goal.returns
-returns c = let s = c.power-summed in record {
-  answer =
-      ap₂ (λ (n k : ℕ). power_as n k s.result.power) c.number.ensures.answer c.place.ensures.answer ∙ ap powered s.ensures.answer;
-}
+pub returns-in-Ok : goal.returns-in-Ok
+returns-in-Ok c = let a = c.args in power_accepted a.spectrum.now a.lo a.hi _ (subst (Powers a.spectrum.now a.lo a.hi) c.in-Ok.is c.power.ensures)
+
+pub returns-in-Err : goal.returns-in-Err
+returns-in-Err c = let a = c.args in power_refused a.spectrum.now a.lo a.hi _ _ _ (subst (Powers a.spectrum.now a.lo a.hi) c.in-Err.is c.power.ensures)
+    c.number.ensures.answer c.place.ensures.answer

@@ -1,8 +1,11 @@
--- `ladlespindle_refusal_number` meets its promise: the number of the verdict of planning. Assumes nothing.
-use Rattle.sequences.proofs.Basics.{ap, ◌∙◌}
-use Rattle.refusal.specs.Refusal.{number_in}
-use Rattle.plan.specs.declared.Planned.{Planned}
+-- `ladlespindle::ladlespindle_refusal_number` meets its contract. Assumes nothing.
+use Rattle.sequences.proofs.Basics.{subst}
+use Rattle.plan.specs.Record.{Plans}
+use Rattle.ladlespindle.proofs.Answers.{number_made, number_refused}
 use Rattle.ladlespindle.proofs.ladlespindle_refusal_number.Goals as goal
 
-pub returns : goal.returns
-returns c = record { answer = c.number.ensures.answer ∙ ap (λ (a : Planned). number_in a.verdict) c.plan-verdict.ensures.answer }
+pub returns-in-Ok : goal.returns-in-Ok
+returns-in-Ok c = number_made c.args.list.now _ (subst (Plans c.args.list.now) c.in-Ok.is c.plan.ensures)
+
+pub returns-in-Err : goal.returns-in-Err
+returns-in-Err c = number_refused c.args.list.now _ _ (subst (Plans c.args.list.now) c.in-Err.is c.plan.ensures) c.number.ensures.answer

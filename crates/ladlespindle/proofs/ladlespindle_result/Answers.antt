@@ -1,12 +1,19 @@
--- `ladlespindle_result` meets its promise: the buffer of the record that planning answers, as a number. Assumes nothing.
-use Rattle.sequences.proofs.Basics.{◌∙◌}
-use Rattle.counts.specs.Counts.{result_in}
+-- `ladlespindle::ladlespindle_result` meets its contract. Assumes nothing.
+use Rattle.sequences.proofs.Basics.{sym, ◌∙◌}
+use Rattle.counts.specs.Counts.{result_in, buffer_number}
 use Rattle.plan.specs.declared.Record.{Record}
-use Rattle.ladlespindle.proofs.Answers.{buffer_for}
+use Rattle.ladlespindle.proofs.Answers.{count_ok, count_err}
 use Rattle.ladlespindle.proofs.ladlespindle_result.Goals as goal
 
-pub returns : goal.returns
-returns c = record {
-  answer = c.number.ensures.answer ∙ buffer_for c.args.list.now c.plan.result
-      c.plan.ensures.answer (λ (p : Record). result_in p.count) c.result-buffer.result c.result-buffer.ensures.answer;
+pub returns-in-Ok : goal.returns-in-Ok
+returns-in-Ok c = record {
+  answer = c.number.ensures.answer
+      ∙ count_ok c.args.list.now (λ (p : Record). result_in p.count) buffer_number c.made_of.result c.made_of.ensures c.result.result
+      c.result.ensures.answer _ c.in-Ok.is;
+}
+
+pub returns-in-Err : goal.returns-in-Err
+returns-in-Err c = record {
+  answer = count_err c.args.list.now (λ (p : Record). result_in p.count) buffer_number c.made_of.result c.made_of.ensures c.result.result
+      c.result.ensures.answer _ c.in-Err.is;
 }

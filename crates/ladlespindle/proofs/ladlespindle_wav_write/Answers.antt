@@ -3,4 +3,4 @@ use Rattle.ladlespindle.proofs.Crossing.{crossed_over}
 use Rattle.ladlespindle.proofs.ladlespindle_wav_write.Goals as goal
 
 pub returns : goal.returns
-returns c = let o = c.write-verdict in crossed_over _ _ _ o.result o.new.file _ _ o.ensures c.number.ensures.answer c.place.ensures.answer
+returns c = let o = c.write in crossed_over _ _ _ o.result o.new.file _ o.ensures c.from.ensures
