@@ -1,14 +1,24 @@
 -- A walk sees a file through windows: 24 bytes from a chunk on, or all to the file's end, tell as much as the whole file. Assumes nothing.
-use Rattle.sequences.proofs.Basics.{◌≡◌, refl, ap, ◌∙◌, ℕ, zero, suc, ◌-◌, ◌≤◌, ◌<◌, min, arith, Bool, true, false, List, length, take, drop, length-drop}
-use Rattle.sequences.proofs.Basics.{take_all, dite, dec_lt}
+use Rattle.sequences.proofs.Basics.{◌≡◌, refl, ap, ◌∙◌, ℕ, zero, suc, ◌-◌, ◌≤◌, ◌<◌, min, arith, List, length, take, drop, length-drop, take_all, dite, dec_lt}
+use Rattle.std.specs.Prelude.{Option, Some, None, Ok, Err}
 use Rattle.little.proofs.Numbers.{number_take}
-use Rattle.chunks.specs.Chunks.{begun, at_data, at_format, at_other, stepped, on_by, walked, walk_in, walk_of}
-use Rattle.chunks.specs.declared.inner.walk.Walk.{Walk}
+use Rattle.chunks.specs.Chunks.{Walking, begun, at_data, at_format, at_other, stepped, on_by, walked, ended, walk_in, walk_of}
+use Rattle.chunks.specs.declared.inner.walk.Walk.TheVariants.{Chunk, End}
 
 -- one chunk in a longer list
-step_take : (bs : List ℕ) (k at rate L : ℕ) → 24 ≤ k → stepped (take k bs) at rate L ≡ stepped bs at rate L
+step_take : (bs : List ℕ) (k at : ℕ) (rate : Option ℕ) (L : ℕ) → 24 ≤ k → stepped (take k bs) at rate L ≡ stepped bs at rate L
 unfolding at_data at_format at_other stepped
-step_take bs k at rate L h = rw (
+step_take bs k at None L h = rw (
+  number_take 4 bs k 0 (omega arith),
+  number_take 4 bs k 4 (omega arith),
+  number_take 4 bs k 12 (omega arith),
+  number_take 4 bs k 16 (omega arith),
+  number_take 2 bs k 8 (omega arith),
+  number_take 2 bs k 10 (omega arith),
+  number_take 2 bs k 20 (omega arith),
+  number_take 2 bs k 22 (omega arith),
+)
+step_take bs k at (Some rate) L h = rw (
   number_take 4 bs k 0 (omega arith),
   number_take 4 bs k 4 (omega arith),
   number_take 4 bs k 12 (omega arith),
@@ -30,7 +40,7 @@ module _ (file : List ℕ) where
   rest_taken k at h = take_all k (drop at file) (omega (arith, length-drop at file, h))
 
   -- a step through a window
-  pub step_window : (k at rate : ℕ) → min 24 (length file - at) ≤ k
+  pub step_window : (k at : ℕ) (rate : Option ℕ) → min 24 (length file - at) ≤ k
       → stepped (take k (drop at file)) at rate (length file) ≡ stepped (drop at file) at rate (length file)
   step_window k at rate h =
       dite (dec_lt k 24)
@@ -52,18 +62,19 @@ module _ (file : List ℕ) where
     abbrev rest : ℕ → List ℕ
     rest at = drop at file
 
-    on_window : (b : Bool) (w : Walk) → on_by b seen (length file) w ≡ on_by b rest (length file) w
-    on_window true w = step_window (size w.at) w.at w.rate (enough w.at)
-    on_window false w = refl
+    on_window : (r : Walking) → on_by seen (length file) r ≡ on_by rest (length file) r
+    on_window (Ok (Chunk at rate)) = step_window (size at) at rate (enough at)
+    on_window (Ok (End samples)) = refl
+    on_window (Err why) = refl
 
-    walked_window : (k : ℕ) (w : Walk) → walked k seen (length file) w ≡ walked k rest (length file) w
+    walked_window : (k : ℕ) (r : Walking) → walked k seen (length file) r ≡ walked k rest (length file) r
     unfolding walked
-    walked_window zero w = refl
-    walked_window (suc k) w = walked_window k (on_by w.more seen (length file) w) ∙ ap (walked k rest (length file)) (on_window w.more w)
+    walked_window zero r = refl
+    walked_window (suc k) r = walked_window k (on_by seen (length file) r) ∙ ap (walked k rest (length file)) (on_window r)
 
     -- the whole walk through windows of any sizes that are large enough is that over the file
     pub walk_window : walk_in seen (length file) ≡ walk_of file
     unfolding walk_in walk_of
     walk_window =
-        ap (walked (length file) seen (length file)) (begun_window (size 0) (omega (arith, enough 0)))
-        ∙ walked_window (length file) (begun file (length file))
+        ap ended (ap (walked (length file) seen (length file)) (begun_window (size 0) (omega (arith, enough 0)))
+        ∙ walked_window (length file) (begun file (length file)))

@@ -1,3 +1,2 @@
 -- The laws that the proofs share and callers cite.
-pub mod Judging
 pub mod Told

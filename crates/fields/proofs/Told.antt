@@ -1,34 +1,17 @@
 -- What an accepted verdict tells of the fields, and when one is given. Assumes nothing.
 use Rattle.sequences.proofs.Basics.{◌≡◌, sym, ◌∙◌, ℕ, ◌-◌, ◌*◌, ◌%◌, ◌≤◌, ◌<◌, arith, List}
 use Rattle.refusal.specs.Refusal.{verdict}
-use Rattle.refusal.specs.declared.Refusal.{Refusal}
 use Rattle.refusal.specs.Refusal.{Verdict}
-use Rattle.refusal.specs.Refusal.{Accepted, Refused}
-use Rattle.refusal.proofs.Rows.{refused_on, accepted_on, deciding, accepted}
+use Rattle.refusal.specs.Refusal.{Accepted}
+use Rattle.refusal.proofs.Rows.{deciding, accepted}
 use Rattle.little.specs.Numbers.{number_at}
-use Rattle.fields.specs.Fields.{mark, padded, head_rows, kind_rows, rate_rows, format_rows, data_rows, other_rows}
+use Rattle.fields.specs.Fields.{mark, padded, head_rows, format_rows, data_rows, other_rows}
 
 -- a file's mark is all there
 pub head_told : (w : List ℕ) (L : ℕ) → verdict (head_rows w 0 L L) ≡ Accepted → 12 ≤ L
 head_told w L t = search accepted depth 20
 
 module _ (w : List ℕ) (at L : ℕ) (v : Verdict) where
-  -- the kind of a format is all there
-  pub kind_told : v ≡ verdict (kind_rows w at (L - at) L) → v ≡ Accepted → 12 ≤ L - at
-  kind_told e a = go (sym e ∙ a)
-    where
-      go : verdict (kind_rows w at (L - at) L) ≡ Accepted → 12 ≤ L - at
-      go t = search accepted depth 20
-
-  -- a format's rate decides where its kind is accepted
-  pub rate_decides : (r : Verdict) → v ≡ verdict (kind_rows w at (L - at) L) → v ≡ Accepted → r ≡ verdict (rate_rows w at (L - at) L)
-      → r ≡ verdict (format_rows w at (L - at) L)
-  rate_decides r e a f = f ∙ sym (accepted_on (kind_rows w at (L - at) L) (rate_rows w at (L - at) L) (sym e ∙ a))
-
-  -- and its kind where that is refused
-  pub kind_decides : (why : Refusal) → v ≡ verdict (kind_rows w at (L - at) L) → v ≡ Refused why → Refused why ≡ verdict (format_rows w at (L - at) L)
-  kind_decides why e a = sym (refused_on (kind_rows w at (L - at) L) (rate_rows w at (L - at) L) why (sym e ∙ a))
-
   -- a format is all there, and its rate is one
   pub format_told : v ≡ verdict (format_rows w at (L - at) L) → v ≡ Accepted → (24 ≤ L - at) × (0 < number_at 4 w 12) × (number_at 4 w 12 ≤ 192000)
   format_told e a = go (sym e ∙ a)
@@ -38,13 +21,12 @@ module _ (w : List ℕ) (at L : ℕ) (v : Verdict) where
           let some : number_at 4 w 12 ≡ 0 → ⊥ = search accepted depth 40 in
           (search accepted depth 40, omega (arith, some), search accepted depth 40)
 
-  -- samples are all there, two bytes each, and come after a format
-  pub data_told : (rate : ℕ) → v ≡ verdict (data_rows w at (L - at) L rate) → v ≡ Accepted
-      → (8 ≤ L - at) × (number_at 4 w 4 ≤ L - at - 8) × (number_at 4 w 4 % 2 ≡ 0) × (rate ≡ 0 → ⊥)
-  data_told rate e a = go (sym e ∙ a)
+  -- samples are all there, two bytes each
+  pub data_told : v ≡ verdict (data_rows w at (L - at) L) → v ≡ Accepted → (8 ≤ L - at) × (number_at 4 w 4 ≤ L - at - 8) × (number_at 4 w 4 % 2 ≡ 0)
+  data_told e a = go (sym e ∙ a)
     where
-      go : verdict (data_rows w at (L - at) L rate) ≡ Accepted → (8 ≤ L - at) × (number_at 4 w 4 ≤ L - at - 8) × (number_at 4 w 4 % 2 ≡ 0) × (rate ≡ 0 → ⊥)
-      go t = (search accepted depth 20, search accepted depth 20, search accepted depth 20, search accepted depth 20)
+      go : verdict (data_rows w at (L - at) L) ≡ Accepted → (8 ≤ L - at) × (number_at 4 w 4 ≤ L - at - 8) × (number_at 4 w 4 % 2 ≡ 0)
+      go t = (search accepted depth 20, search accepted depth 20, search accepted depth 20)
 
   -- any other chunk is all there with its pad byte
   pub other_told : v ≡ verdict (other_rows w at (L - at) L) → v ≡ Accepted → (8 ≤ L - at) × (padded (number_at 4 w 4) ≤ L - at - 8)
@@ -86,9 +68,7 @@ module _ (w : List ℕ) (at L : ℕ) where
       let it : Accepted ≡ verdict (format_rows w at (L - at) L) = search deciding depth 40 in
       sym it
 
-  pub data_accepted : (rate : ℕ) → 0 < rate → 8 ≤ L - at → number_at 4 w 4 % 2 ≡ 0 → number_at 4 w 4 ≤ L - at - 8
-      → verdict (data_rows w at (L - at) L rate) ≡ Accepted
-  data_accepted rate some h e m =
-      let none : rate ≡ 0 → ⊥ = λ (z : rate ≡ 0). absurd (omega (arith, some, z)) in
-      let it : Accepted ≡ verdict (data_rows w at (L - at) L rate) = search deciding depth 20 in
+  pub data_accepted : 8 ≤ L - at → number_at 4 w 4 % 2 ≡ 0 → number_at 4 w 4 ≤ L - at - 8 → verdict (data_rows w at (L - at) L) ≡ Accepted
+  data_accepted h e m =
+      let it : Accepted ≡ verdict (data_rows w at (L - at) L) = search deciding depth 20 in
       sym it

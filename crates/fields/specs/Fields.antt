@@ -45,9 +45,9 @@ module _ (w : List ℕ) (at left L : ℕ) where
   abbrev pub format_rows : List Row
   format_rows = kind_rows ++ rate_rows
 
-  -- samples: after a format, of even size, and all there
-  abbrev pub data_rows : (rate : ℕ) → List Row
-  data_rows rate = eqb rate 0 ⇒ Wav at ∷ [] ++ field 4 4 (is_not (number_at 4 w 4 % 2) 0) ++ (ltb (left - 8) (number_at 4 w 4) ⇒ Wav L ∷ [])
+  -- samples: of even size, and all there
+  abbrev pub data_rows : List Row
+  data_rows = field 4 4 (is_not (number_at 4 w 4 % 2) 0) ++ (ltb (left - 8) (number_at 4 w 4) ⇒ Wav L ∷ [])
 
   -- any other chunk: all there, with its pad byte
   abbrev pub other_rows : List Row

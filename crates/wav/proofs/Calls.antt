@@ -1,5 +1,6 @@
 -- What a call answers and leaves, by its verdict. Assumes nothing.
-use Rattle.sequences.proofs.Basics.{◌≡◌, refl, sym, ap, ◌∙◌, subst, ℕ, ◌+◌, ◌*◌, ◌≤◌, ◌<◌, arith, List, length}
+use Rattle.sequences.proofs.Basics.{◌≡◌, refl, sym, ap, ◌∙◌, ℕ, ◌+◌, ◌*◌, ◌≤◌, ◌<◌, arith, List, length, dite, ℕ_discrete}
+use Rattle.std.specs.Prelude.{Result, Ok, Err}
 use lib.Ieee.{Float}
 use Rattle.refusal.specs.Refusal.{left}
 use Rattle.refusal.specs.declared.Refusal.{Refusal}
@@ -9,53 +10,75 @@ use Rattle.refusal.specs.Refusal.{Accepted, Refused}
 use Rattle.refusal.proofs.Rows.{deciding, accepted}
 use Rattle.pcm.specs.Samples.{samples_at, first_unfit}
 use Rattle.chunks.specs.Chunks.{walk_of}
-use Rattle.chunks.specs.declared.inner.walk.Walk.{Walk}
-use Rattle.chunks.proofs.Going.{refused_not}
-use Rattle.chunks.proofs.Walks.{walk_inside}
+use Rattle.chunks.specs.declared.inner.walk.Samples.{Samples}
 use Rattle.wav.specs.Header.{most_samples}
-use Rattle.wav.specs.Wav.{none, told, Measures, with_room, read_verdict, Reads, write_verdict}
+use Rattle.wav.specs.Wav.{counted, told, Measures, with_room, read_verdict, samples_in, Reads, write_verdict}
 use Rattle.wav.specs.declared.Wav.{Wav}
 
-module _ (file : List ℕ) (w : Walk) (is : w ≡ walk_of file) where
-  -- its samples are in the file
-  pub walked_inside : w.verdict ≡ Accepted → w.at + 2 * w.samples ≤ length file
-  walked_inside = subst (λ (x : Walk). x.verdict ≡ Accepted → x.at + 2 * x.samples ≤ length file) (sym is) (walk_inside file)
+-- ---- what is read
 
-  -- a file that is measured
-  pub measures : (v : Verdict) (r : Wav) → w.verdict ≡ v → r ≡ told v w → Measures file r
-  measures v r e f = record { answer = f ∙ ap (λ (u : Verdict). told u w) (sym e) ∙ ap (λ (x : Walk). told x.verdict x) is }
+-- the output holds as many numbers as there are samples, or not
+room_fits : (s : Samples) (room : ℕ) → room ≡ s.count → with_room (Ok s) room ≡ Accepted
+room_fits s room e = let it : Accepted ≡ with_room (Ok s) room = search deciding depth 10 in sym it
 
-  module _ (before : List Float) where
-    verdict_is : (v : Verdict) → w.verdict ≡ v → with_room v (length before) w.samples ≡ read_verdict file (length before)
-    unfolding read_verdict
-    verdict_is v e = ap (λ (u : Verdict). with_room u (length before) w.samples) (sym e)
-        ∙ ap (λ (x : Walk). with_room x.verdict (length before) x.samples) is
+room_short : (s : Samples) (room : ℕ) → (room ≡ s.count → ⊥) → with_room (Ok s) room ≡ Refused (Length 1)
+room_short s room n = let it : Refused (Length 1) ≡ with_room (Ok s) room = search deciding depth 10 in sym it
 
-    -- one that is read by this verdict
-    reads : (v : Verdict) (r : Wav) (after : List Float) → v ≡ read_verdict file (length before) → r ≡ told v w
-        → after ≡ left v (samples_at file w.at w.samples) before → Reads file before r after
-    reads v r after e f g = record {
-      answer = f ∙ ap (λ (u : Verdict). told u w) e ∙ ap (told (read_verdict file (length before))) is;
-      cells = g ∙ ap (λ (u : Verdict). left u (samples_at file w.at w.samples) before) e
-          ∙ ap (λ (x : Walk). left (read_verdict file (length before)) (samples_at file x.at x.samples) before) is;
-    }
+-- a reading is accepted exactly where the file is and the output holds the samples
+pub read_accepted : (file : List ℕ) (s : Samples) (room : ℕ) → walk_of file ≡ Ok s → room ≡ s.count → read_verdict file room ≡ Accepted
+unfolding read_verdict
+read_accepted file s room w e = rw w (room_fits s room e)
 
-    -- accepted
-    pub reads_accepted : w.verdict ≡ Accepted → length before ≡ w.samples → (after : List Float) → after ≡ samples_at file w.at (length before)
-        → Reads file before (record { verdict = Accepted; rate = w.rate; samples = w.samples }) after
-    reads_accepted e f after g =
-        let fits : Accepted ≡ with_room Accepted (length before) w.samples = search deciding in
-        reads Accepted _ after (fits ∙ verdict_is Accepted e) refl (g ∙ ap (samples_at file w.at) f)
+pub read_short : (file : List ℕ) (s : Samples) (room : ℕ) → walk_of file ≡ Ok s → (room ≡ s.count → ⊥) → read_verdict file room ≡ Refused (Length 1)
+unfolding read_verdict
+read_short file s room w n = rw w (room_short s room n)
 
-    -- refused for the output
-    pub reads_short : w.verdict ≡ Accepted → (length before ≡ w.samples → ⊥) → (r : Wav) → r ≡ none (Length 1) → Reads file before r before
-    reads_short e f r g =
-        let short : Refused (Length 1) ≡ with_room Accepted (length before) w.samples = search deciding in
-        reads (Refused (Length 1)) r before (short ∙ verdict_is Accepted e) g refl
+pub read_refused : (file : List ℕ) (why : Refusal) (room : ℕ) → walk_of file ≡ Err why → read_verdict file room ≡ Refused why
+unfolding read_verdict
+read_refused file why room w = rw w
 
-    -- refused for the file
-    pub reads_refused : (why : Refusal) → w.verdict ≡ Refused why → (r : Wav) → r ≡ none why → Reads file before r before
-    reads_refused why e r g = reads (Refused why) r before (verdict_is (Refused why) e) g refl
+-- what is measured tells of the walk
+pub measured : (file : List ℕ) (m : Result Wav Refusal) (w : Wav) → Measures file m → m ≡ Ok w → (s : Samples) × (walk_of file ≡ Ok s) × (w ≡ counted s)
+measured file m w c e = go (walk_of file) refl
+  where
+    go : (walk : Result Samples Refusal) → walk_of file ≡ walk → (s : Samples) × (walk_of file ≡ Ok s) × (w ≡ counted s)
+    go (Ok s) f = let is : m ≡ Ok (counted s) = c.answer ∙ ap (told Accepted) f in (s, f, cc)
+    go (Err why) f = let is : m ≡ Err why = c.answer ∙ ap (told Accepted) f in absurd (cc)
+
+pub measured_not : (file : List ℕ) (m : Result Wav Refusal) (why : Refusal) → Measures file m → m ≡ Err why → walk_of file ≡ Err why
+measured_not file m why c e = go (walk_of file) refl
+  where
+    go : (walk : Result Samples Refusal) → walk_of file ≡ walk → walk_of file ≡ Err why
+    go (Ok s) f = let is : m ≡ Ok (counted s) = c.answer ∙ ap (told Accepted) f in absurd (cc)
+    go (Err other) f = let is : m ≡ Err other = c.answer ∙ ap (told Accepted) f in cc
+
+-- and what is read tells of the walk and of the output
+module _ (file : List ℕ) (before after : List Float) (r : Result Wav Refusal) (reads : Reads file before r after) where
+  -- by the verdict
+  read_by : (v : Verdict) (walk : Result Samples Refusal) → walk_of file ≡ walk → read_verdict file (length before) ≡ v
+      → (r ≡ told v walk) × (after ≡ left v (samples_in file walk) before)
+  read_by v walk e f = (
+    reads.answer ∙ ap (λ (u : Verdict). told u (walk_of file)) f ∙ ap (told v) e,
+    reads.cells ∙ ap (λ (u : Verdict). left u (samples_in file (walk_of file)) before) f
+        ∙ ap (λ (x : Result Samples Refusal). left v (samples_in file x) before) e,
+  )
+
+  pub read_told : (w : Wav) → r ≡ Ok w
+      → (s : Samples) × (walk_of file ≡ Ok s) × (w ≡ counted s) × (length before ≡ s.count) × (after ≡ samples_at file s.at s.count)
+  read_told w a = go (walk_of file) refl
+    where
+      go : (walk : Result Samples Refusal) → walk_of file ≡ walk
+          → (s : Samples) × (walk_of file ≡ Ok s) × (w ≡ counted s) × (length before ≡ s.count) × (after ≡ samples_at file s.at s.count)
+      go (Ok s) f =
+          dite (ℕ_discrete (length before) s.count)
+          (λ (e : length before ≡ s.count). let t = read_by Accepted (Ok s) f (read_accepted file s (length before) f e) in
+          let is : r ≡ Ok (counted s) = t.0 in let same : w ≡ counted s = cc in (s, f, same, e, t.1))
+          (λ (n : length before ≡ s.count → ⊥). let t = read_by (Refused (Length 1)) (Ok s) f (read_short file s (length before) f n) in
+          let is : r ≡ Err (Length 1) = t.0 in absurd (cc))
+      go (Err why) f =
+          let t = read_by (Refused why) (Err why) f (read_refused file why (length before) f) in let is : r ≡ Err why = t.0 in absurd (cc)
+
+-- ---- what is written
 
 -- what an accepted writing tells
 pub write_told : (rate : ℕ) (xs : List Float) (file : ℕ) (v : Verdict) → v ≡ write_verdict rate xs file → v ≡ Accepted
@@ -77,42 +100,3 @@ write_accepted rate xs file some most few long fit =
     let none : rate ≡ 0 → ⊥ = λ (z : rate ≡ 0). absurd (omega (arith, some, z)) in
     let it : Accepted ≡ write_verdict rate xs file = search deciding depth 20 in
     sym it
-
--- the verdict of an answer
-answered : (v : Verdict) (w : Walk) → (told v w).verdict ≡ v
-answered Accepted w = refl
-answered (Refused why) w = refl
-
--- what is measured, by the verdict that is told
-pub measured : (file : List ℕ) (m : Wav) → Measures file m → m.verdict ≡ (walk_of file).verdict
-measured file m c = ap (λ (x : Wav). x.verdict) c.answer ∙ answered (walk_of file).verdict (walk_of file)
-
--- and what is read
-pub read_by : (file : List ℕ) (before after : List Float) (r : Wav) → Reads file before r after → r.verdict ≡ read_verdict file (length before)
-read_by file before after r c = ap (λ (x : Wav). x.verdict) c.answer ∙ answered (read_verdict file (length before)) (walk_of file)
-
--- a reading is accepted exactly where the file is and the output holds the samples
-pub read_told : (file : List ℕ) (room : ℕ) → read_verdict file room ≡ Accepted → ((walk_of file).verdict ≡ Accepted) × (room ≡ (walk_of file).samples)
-unfolding read_verdict
-read_told file room = go (walk_of file).verdict
-  where
-    go : (v : Verdict) → with_room v room (walk_of file).samples ≡ Accepted → (v ≡ Accepted) × (room ≡ (walk_of file).samples)
-    go Accepted t = let same : ◌≡◌ {A = Verdict} Accepted Accepted = refl in (same, search accepted depth 10)
-    go (Refused why) t = absurd (refused_not t)
-
-pub read_accepted : (file : List ℕ) (room : ℕ) → (walk_of file).verdict ≡ Accepted → room ≡ (walk_of file).samples → read_verdict file room ≡ Accepted
-unfolding read_verdict
-read_accepted file room a e =
-    let it : Accepted ≡ with_room Accepted room (walk_of file).samples = search deciding depth 10 in
-    ap (λ (v : Verdict). with_room v room (walk_of file).samples) a ∙ sym it
-
-pub read_short : (file : List ℕ) (room : ℕ) → (walk_of file).verdict ≡ Accepted → (room ≡ (walk_of file).samples → ⊥) → read_verdict file room ≡ Refused
-    (Length 1)
-unfolding read_verdict
-read_short file room a n =
-    let it : Refused (Length 1) ≡ with_room Accepted room (walk_of file).samples = search deciding depth 10 in
-    ap (λ (v : Verdict). with_room v room (walk_of file).samples) a ∙ sym it
-
-pub read_refused : (file : List ℕ) (room : ℕ) (why : Refusal) → (walk_of file).verdict ≡ Refused why → read_verdict file room ≡ Refused why
-unfolding read_verdict
-read_refused file room why a = ap (λ (v : Verdict). with_room v room (walk_of file).samples) a

@@ -1,13 +1,14 @@
 -- A plain file: the 44 bytes, then the samples. Its fields one by one; the walk over it; that a file of its length is one; and its bytes. Assumes nothing.
 use Rattle.sequences.proofs.Basics.{◌≡◌, refl, sym, ap, ap₂, ◌∙◌, ℕ, suc, ◌+◌, ◌-◌, ◌*◌, ◌/◌, ◌≤◌, ◌<◌, lit≤, arith, List, [], ◌++◌, length, length-append}
 use Rattle.sequences.proofs.Basics.{drop}
+use Rattle.std.specs.Prelude.{Some, None, Ok}
 use Rattle.refusal.specs.Refusal.{Verdict}
-use Rattle.refusal.specs.Refusal.{Accepted}
 use Rattle.little.specs.Numbers.{number_at, Bytes, bytes_of}
 use Rattle.little.proofs.Numbers.{number_drop, bytes_number, number_bytes}
 use Rattle.fields.specs.Fields.{mark}
-use Rattle.chunks.specs.Chunks.{chunk_at, samples_from, going, begun, at_data, at_format, stepped, walked, walk_in, walk_of}
-use Rattle.chunks.specs.declared.inner.walk.Walk.{Walk}
+use Rattle.chunks.specs.Chunks.{samples_from, going, begun, at_data, at_format, stepped, walked, ended, walk_in, walk_of}
+use Rattle.chunks.specs.declared.inner.walk.Walk.TheVariants.{Chunk, End}
+use Rattle.chunks.specs.declared.inner.walk.Samples.{Samples}
 use Rattle.fields.proofs.Told.{head_fields, head_accepted, format_fields, format_accepted, format_told, data_told, data_accepted}
 use Rattle.chunks.proofs.Steps.{marks_apart, step_data, step_format}
 use Rattle.chunks.proofs.Walks.{walked_on, walked_ended}
@@ -34,7 +35,7 @@ pub record Plain (file : List ℕ) (rate n : ℕ) : Type 0 where
   pub size : number_at 4 file 40 ≡ 2 * n
 
 -- the walk over one
-pub plain_walk : (file : List ℕ) (rate n : ℕ) → Plain file rate n → walk_of file ≡ samples_from 44 rate n
+pub plain_walk : (file : List ℕ) (rate n : ℕ) → Plain file rate n → walk_of file ≡ Ok (samples_from 44 rate n)
 unfolding begun at_data at_format walk_in walk_of
 plain_walk file rate n p =
     let L = length file in let see : ℕ → List ℕ = λ at. drop at file in
@@ -42,35 +43,38 @@ plain_walk file rate n p =
     let at12 : (k i : ℕ) → number_at k f i ≡ number_at k file (12 + i) = λ k i. number_drop k file 12 i in
     let at36 : (k i : ℕ) → number_at k d i ≡ number_at k file (36 + i) = λ k i. number_drop k file 36 i in
     let each = at12 4 12 ∙ p.each in let size = at36 4 4 ∙ p.size in
-    let start : begun file L ≡ chunk_at 12 0 = ap (λ (v : Verdict). going v (chunk_at 12 0))
+    let start : begun file L ≡ Ok (Chunk 12 None)
+    = ap (λ (v : Verdict). going v (Ok (Chunk 12 None)))
     (head_accepted file 0 L (omega (arith, p.long)) p.riff (omega (arith, p.long, p.whole)) p.wave) in
-    let one : stepped f 12 0 L ≡ chunk_at 36 rate = step_format f 12 0 L (omega (arith, p.long)) (marks_apart (number_at 4 f 0) (at12 4 0 ∙ p.format))
+    let one : stepped f 12 None L ≡ Ok (Chunk 36 (Some rate))
+    = step_format f 12 None L (omega (arith, p.long)) (marks_apart (number_at 4 f 0) (at12 4 0 ∙ p.format))
     (at12 4 0 ∙ p.format) refl
-    ∙ ap (λ (v : Verdict). going v (chunk_at 36 (number_at 4 f 12)))
+    ∙ ap (λ (v : Verdict). going v (Ok (Chunk 36 (Some (number_at 4 f 12)))))
     (format_accepted f 12 L (omega (arith, p.long)) (at12 4 4 ∙ p.sixteen) (at12 2 8 ∙ p.pcm) (at12 2 10 ∙ p.single) (omega (arith, each, p.some))
     (omega (arith, each, p.most)) (at12 4 16 ∙ p.second ∙ ap (λ (x : ℕ). 2 * x) (sym each)) (at12 2 20 ∙ p.wide) (at12 2 22 ∙ p.bits))
-    ∙ ap (chunk_at 36) each in
-    let two : stepped d 36 rate L ≡ samples_from 44 rate n = step_data d 36 rate L (omega (arith, p.long)) (at36 4 0 ∙ p.samples)
-    ∙ ap (λ (v : Verdict). going v (samples_from 44 rate (number_at 4 d 4 / 2)))
-    (data_accepted d 36 L rate p.some (omega (arith, p.long)) (omega (arith, size)) (omega (arith, p.long, size)))
-    ∙ ap (λ (x : ℕ). samples_from 44 rate x) (omega (arith, size)) in
+    ∙ ap (λ (x : ℕ). Ok (Chunk 36 (Some x))) each in
+    let two : stepped d 36 (Some rate) L ≡ Ok (End (samples_from 44 rate n))
+    = step_data d 36 (Some rate) L (omega (arith, p.long)) (at36 4 0 ∙ p.samples)
+    ∙ ap (λ (v : Verdict). going v (Ok (End (samples_from 44 rate (number_at 4 d 4 / 2)))))
+    (data_accepted d 36 L (omega (arith, p.long)) (omega (arith, size)) (omega (arith, p.long, size)))
+    ∙ ap (λ (x : ℕ). Ok (End (samples_from 44 rate x))) (omega (arith, size)) in
     let k = L - 2 in
     let more : L ≡ suc (suc k) = omega (arith, p.long) in
-    ap (walked L see L) start ∙ ap (λ (j : ℕ). walked j see L (chunk_at 12 0)) more ∙ walked_on see L (suc k) (chunk_at 12 0) refl
-    ∙ ap (walked (suc k) see L) one ∙ walked_on see L k (chunk_at 36 rate) refl ∙ ap (walked k see L) two ∙ walked_ended see L k (samples_from 44 rate n) refl
+    ap ended (ap (walked L see L) start ∙ ap (λ (j : ℕ). walked j see L (Ok (Chunk 12 None))) more ∙ walked_on see L (suc k) 12 None
+    ∙ ap (walked (suc k) see L) one ∙ walked_on see L k 36 (Some rate) ∙ ap (walked k see L) two ∙ walked_ended see L k (samples_from 44 rate n))
 
 -- a file of that length that is accepted is one
-pub tight_plain : (file : List ℕ) → (walk_of file).verdict ≡ Accepted → length file ≡ 44 + 2 * (walk_of file).samples
-    → Plain file (walk_of file).rate (walk_of file).samples
-tight_plain file a long =
-    let L = length file in let t = tight file a long in let w = walk_of file in
+pub tight_plain : (file : List ℕ) (w : Samples) → walk_of file ≡ Ok w → length file ≡ 44 + 2 * w.count → Plain file w.rate w.count
+tight_plain file w a long =
+    let L = length file in let t = tight file w a long in
     let f = drop 12 file in let d = drop 36 file in
     let at12 : (k i : ℕ) → number_at k f i ≡ number_at k file (12 + i) = λ k i. number_drop k file 12 i in
     let at36 : (k i : ℕ) → number_at k d i ≡ number_at k file (36 + i) = λ k i. number_drop k file 36 i in
     let h = head_fields file 0 L t.head in let g = format_fields f 12 L t.format in let told = format_told f 12 L _ refl t.format in
-    let even = (data_told d 36 L _ (number_at 4 f 12) refl t.samples).2 in
-    let rate : w.rate ≡ number_at 4 f 12 = ap (λ (x : Walk). x.rate) t.walk in
-    let count : w.samples ≡ number_at 4 d 4 / 2 = ap (λ (x : Walk). x.samples) t.walk in
+    let even = (data_told d 36 L _ refl t.samples).2 in
+    let is : w ≡ samples_from 44 (number_at 4 f 12) (number_at 4 d 4 / 2) = cc (a, t.walk) in
+    let rate : w.rate ≡ number_at 4 f 12 = ap (λ (x : Samples). x.rate) is in
+    let count : w.count ≡ number_at 4 d 4 / 2 = ap (λ (x : Samples). x.count) is in
     record {
       long = long;
       some = omega (arith, rate, told.1);

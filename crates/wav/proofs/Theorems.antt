@@ -2,6 +2,7 @@
 -- bytes and its samples that was read is written byte for byte; and a reader with a small window measures and reads a file of any length. Assumes nothing.
 use Rattle.sequences.proofs.Basics.{◌≡◌, sym, ap, ap₂, ◌∙◌, subst, ℕ, ◌+◌, ◌-◌, ◌*◌, ◌<◌, ◌≤◌, min, arith, true, false, T, List, ◌++◌, length, get_or, take}
 use Rattle.sequences.proofs.Basics.{drop, take_at, drop_at}
+use Rattle.std.specs.Prelude.{Result, Ok, Err}
 use lib.IntN.{pos}
 use lib.Ieee.{Float, nan, fin, binary32, eq, fits as ieee_fits}
 use lib.Ieee.Exact.{HasValue}
@@ -18,56 +19,51 @@ use Rattle.pcm.proofs.Bytes.{all_fit, length_bytes}
 use Rattle.pcm.proofs.Theorems.{sample_value, written_equal, written_same, samples_length, samples_at_lem, samples_cut, samples_window, read_fit, read_bytes}
 use Rattle.pcm.proofs.Theorems.{written_at}
 use Rattle.chunks.specs.Chunks.{samples_from, walk_in, walk_of}
-use Rattle.chunks.specs.declared.inner.walk.Walk.{Walk}
+use Rattle.chunks.specs.declared.inner.walk.Samples.{Samples}
 use Rattle.chunks.proofs.Windows.{walk_window}
 use Rattle.wav.specs.Header.{most_samples, header_of}
-use Rattle.wav.specs.Wav.{none, told, Measures, read_verdict, Reads, file_of, Writes}
+use Rattle.wav.specs.Wav.{told, Measures, read_verdict, samples_in, Reads, file_of, Writes}
 use Rattle.wav.specs.declared.Wav.{Wav}
-use Rattle.wav.proofs.Calls.{measured, read_by, read_told, read_accepted, read_short, read_refused, write_told, write_accepted}
+use Rattle.wav.proofs.Calls.{measured, measured_not, read_told, read_accepted, read_short, read_refused, write_told, write_accepted}
 use Rattle.wav.proofs.Files.{header_length}
 use Rattle.wav.proofs.Plain.{Plain, plain_walk, tight_plain, header_plain, plain_header}
 
 -- ---- measuring and reading
 
-module _ (file : List ℕ) (m : Wav) (before after : List Float) (r : Wav) (measures : Measures file m) (reads : Reads file before r after) where
-  -- the file's verdict, and what is measured by it
-  verdict_is : (v : Verdict) → m.verdict ≡ v → (walk_of file).verdict ≡ v
-  verdict_is v e = sym (measured file m measures) ∙ e
-
-  measured_is : (v : Verdict) → m.verdict ≡ v → m ≡ told v (walk_of file)
-  measured_is v e = measures.answer ∙ ap (λ (u : Verdict). told u (walk_of file)) (verdict_is v e)
-
+module _ (file : List ℕ) (m : Result Wav Refusal) (before after : List Float) (r : Result Wav Refusal) (measures : Measures file m)
+    (reads : Reads file before r after) where
   read_is : (v : Verdict) → read_verdict file (length before) ≡ v → r ≡ told v (walk_of file)
   read_is v e = reads.answer ∙ ap (λ (u : Verdict). told u (walk_of file)) e
 
-  counted : m.verdict ≡ Accepted → m.samples ≡ (walk_of file).samples
-  counted a = ap (λ (x : Wav). x.samples) (measured_is Accepted a)
-
   -- with room for exactly the samples that were measured, reading is accepted and answers the same
-  pub measure_read : m.verdict ≡ Accepted → length before ≡ m.samples → r ≡ m
-  measure_read a e = read_is Accepted (read_accepted file (length before) (verdict_is Accepted a) (e ∙ counted a)) ∙ sym (measured_is Accepted a)
+  pub measure_read : (w : Wav) → m ≡ Ok w → length before ≡ w.samples → r ≡ m
+  measure_read w a e =
+      let (s, walk, is) = measured file m w measures a in
+      read_is Accepted (read_accepted file s (length before) walk (e ∙ ap (λ (x : Wav). x.samples) is)) ∙ sym measures.answer
 
   -- with any other it is refused 8 at 1
-  pub measure_short : m.verdict ≡ Accepted → (length before ≡ m.samples → ⊥) → r ≡ none (Length 1)
-  measure_short a n = read_is (Refused (Length 1)) (read_short file (length before) (verdict_is Accepted a) (λ f. n (f ∙ sym (counted a))))
+  pub measure_short : (w : Wav) → m ≡ Ok w → (length before ≡ w.samples → ⊥) → r ≡ Err (Length 1)
+  measure_short w a n =
+      let (s, walk, is) = measured file m w measures a in
+      read_is (Refused (Length 1)) (read_short file s (length before) walk (λ f. n (f ∙ sym (ap (λ (x : Wav). x.samples) is))))
 
   -- and what is refused as no recording is refused in the same way
-  pub measure_refused : (why : Refusal) → m.verdict ≡ Refused why → r ≡ m
-  measure_refused why a = read_is (Refused why) (read_refused file (length before) why (verdict_is (Refused why) a)) ∙ sym (measured_is (Refused why) a)
+  pub measure_refused : (why : Refusal) → m ≡ Err why → r ≡ m
+  measure_refused why a = read_is (Refused why) (read_refused file why (length before) (measured_not file m why measures a)) ∙ sym a
 
 -- ---- the numbers that are read
 
-module _ (file : List ℕ) (before after : List Float) (r : Wav) (reads : Reads file before r after) (a : r.verdict ≡ Accepted) where
-  -- sample i is the number v of its two bytes, or from 32,768 on 65,536 less, divided by 32,768: no rounding, no infinity and no NaN
-  pub read_values : (i v : ℕ) → i < r.samples → number_at 2 file ((walk_of file).at + 2 * i) ≡ v
-      → (v < 32768 → HasValue (get_or after i nan) false v 32768) × (32768 ≤ v → v < 65536 → HasValue (get_or after i nan) true (65536 - v) 32768)
-  read_values i v l e =
-      let w = walk_of file in let ok = sym (read_by file before after r reads) ∙ a in
-      let n : r.samples ≡ w.samples = ap (λ (x : Wav). x.samples) (reads.answer ∙ ap (λ (u : Verdict). told u w) ok) in
-      let is : get_or after i nan ≡ sample_of v = ap (λ (ys : List Float). get_or ys i nan)
-      (reads.cells ∙ ap (λ (u : Verdict). left u (samples_at file w.at w.samples) before) ok)
-      ∙ samples_at_lem file w.at w.samples i (omega (arith, l, n)) ∙ ap sample_of e in
-      (λ h. rw is ((sample_value v).0 h), λ h k. rw is ((sample_value v).1 h k))
+-- sample i is the number v of its two bytes, or from 32,768 on 65,536 less, divided by 32,768: no rounding, no infinity and no NaN
+pub read_values : (file : List ℕ) (before after : List Float) (r : Result Wav Refusal) → Reads file before r after → (w : Wav) → r ≡ Ok w
+    → (s : Samples) → walk_of file ≡ Ok s → (i v : ℕ) → i < w.samples → number_at 2 file (s.at + 2 * i) ≡ v
+    → (v < 32768 → HasValue (get_or after i nan) false v 32768) × (32768 ≤ v → v < 65536 → HasValue (get_or after i nan) true (65536 - v) 32768)
+read_values file before after r reads w a s walk i v l e =
+    let (t, found, is, room, cells) = read_told file before after r reads w a in
+    let same : t ≡ s = cc (found, walk) in
+    let n : w.samples ≡ s.count = ap (λ (x : Wav). x.samples) is ∙ ap (λ (x : Samples). x.count) same in
+    let number : get_or after i nan ≡ sample_of v = ap (λ (ys : List Float). get_or ys i nan)
+    (cells ∙ ap (λ (x : Samples). samples_at file x.at x.count) same) ∙ samples_at_lem file s.at s.count i (omega (arith, l, n)) ∙ ap sample_of e in
+    (λ h. rw number ((sample_value v).0 h), λ h k. rw number ((sample_value v).1 h k))
 
 -- ---- a file that was written
 
@@ -83,30 +79,30 @@ module _ (rate : ℕ) (xs : List Float) (before file : List ℕ) (v : Verdict) (
   plain = subst (λ (f : List ℕ). Plain f rate (length xs)) (sym file_is)
       (header_plain rate (length xs) (sample_bytes xs) tells.3 tells.4 tells.0 (length_bytes xs))
 
-  walk_is : walk_of file ≡ samples_from 44 rate (length xs)
+  walk_is : walk_of file ≡ Ok (samples_from 44 rate (length xs))
   walk_is = plain_walk file rate (length xs) plain
 
   -- it is measured as its rate and samples
-  pub measure_written : (m : Wav) → Measures file m → m ≡ record { verdict = Accepted; rate = rate; samples = length xs }
-  measure_written m c = c.answer ∙ ap (λ (w : Walk). told w.verdict w) walk_is
+  pub measure_written : (m : Result Wav Refusal) → Measures file m → m ≡ Ok (record { rate = rate; samples = length xs })
+  measure_written m c = c.answer ∙ ap (told Accepted) walk_is
 
-  module _ (out after : List Float) (r : Wav) (reads : Reads file out r after) (room : length out ≡ length xs) where
+  module _ (out after : List Float) (r : Result Wav Refusal) (reads : Reads file out r after) (room : length out ≡ length xs) where
     accepted : read_verdict file (length out) ≡ Accepted
-    accepted = read_accepted file (length out) (ap (λ (w : Walk). w.verdict) walk_is) (room ∙ sym (ap (λ (w : Walk). w.samples) walk_is))
+    accepted = read_accepted file (samples_from 44 rate (length xs)) (length out) walk_is room
 
     -- what is read from the bytes of each sample
     each : (i : ℕ) → i < length xs → get_or after i nan ≡ sample_of (word_of (get_or xs i nan))
     unfolding file_of
     each i l =
-        let head = header_of rate (length xs) in let w = walk_of file in
+        let head = header_of rate (length xs) in
         let cells : after ≡ samples_at (head ++ sample_bytes xs) 44 (length xs) = reads.cells
-        ∙ ap (λ (u : Verdict). left u (samples_at file w.at w.samples) out) accepted
-        ∙ ap (λ (x : Walk). samples_at file x.at x.samples) walk_is ∙ ap (λ (f : List ℕ). samples_at f 44 (length xs)) file_is in
+        ∙ ap (λ (u : Verdict). left u (samples_in file (walk_of file)) out) accepted
+        ∙ ap (samples_in file) walk_is ∙ ap (λ (f : List ℕ). samples_at f 44 (length xs)) file_is in
         ap (λ (ys : List Float). get_or ys i nan) cells
         ∙ ap (λ (k : ℕ). get_or (samples_at (head ++ sample_bytes xs) k (length xs)) i nan) (sym (header_length rate (length xs))) ∙ written_at head xs i l
 
     -- it is read as the same samples, as numbers, and the same rate
-    pub read_written : (r ≡ record { verdict = Accepted; rate = rate; samples = length xs })
+    pub read_written : (r ≡ Ok (record { rate = rate; samples = length xs }))
         × ((i : ℕ) → i < length xs → eq (get_or after i nan) (get_or xs i nan) ≡ true)
     read_written = (
       reads.answer ∙ ap (λ (u : Verdict). told u (walk_of file)) accepted ∙ ap (told Accepted) walk_is,
@@ -120,64 +116,54 @@ module _ (rate : ℕ) (xs : List Float) (before file : List ℕ) (v : Verdict) (
 
 -- ---- a file that was read
 
-module _ (file : List ℕ) (bytes : Bytes file) (out samples : List Float) (r : Wav) (reads : Reads file out r samples) (a : r.verdict ≡ Accepted)
-    (long : length file ≡ 44 + 2 * r.samples) where
-  abbrev rate_read : ℕ
-  rate_read = (walk_of file).rate
-
-  abbrev samples_read : List Float
-  samples_read = samples_at file 44 (walk_of file).samples
-
-  back : Plain file rate_read (walk_of file).samples → file_of rate_read samples_read ≡ file
+module _ (file : List ℕ) (bytes : Bytes file) (out samples : List Float) (r : Result Wav Refusal) (reads : Reads file out r samples) (w : Wav) (a : r ≡ Ok w)
+    (long : length file ≡ 44 + 2 * w.samples) where
+  back : (rate n : ℕ) → Plain file rate n → file_of rate (samples_at file 44 n) ≡ file
   unfolding file_of
-  back p =
-      let n = (walk_of file).samples in
-      ap₂ (λ (k : ℕ) (bs : List ℕ). header_of rate_read k ++ bs) (samples_length file 44 n) (read_bytes file bytes 44 n p.long)
-      ∙ sym (plain_header file rate_read n bytes p)
+  back rate n p =
+      ap₂ (λ (k : ℕ) (bs : List ℕ). header_of rate k ++ bs) (samples_length file 44 n) (read_bytes file bytes 44 n p.long)
+      ∙ sym (plain_header file rate n bytes p)
 
   -- one of 44 bytes and its samples is written as its own bytes
-  pub write_read : (before after : List ℕ) (v : Verdict) → length before ≡ length file → Writes r.rate samples before v after
+  pub write_read : (before after : List ℕ) (v : Verdict) → length before ≡ length file → Writes w.rate samples before v after
       → (v ≡ Accepted) × (after ≡ file)
   write_read before after v e writes =
-      let w = walk_of file in
-      let told-by = read_told file (length out) (sym (read_by file out samples r reads) ∙ a) in
-      let is : r ≡ told Accepted w = reads.answer ∙ ap (λ (u : Verdict). told u w) (sym (read_by file out samples r reads) ∙ a) in
-      let rate : r.rate ≡ w.rate = ap (λ (x : Wav). x.rate) is in let n : r.samples ≡ w.samples = ap (λ (x : Wav). x.samples) is in
-      let p = tight_plain file told-by.0 (long ∙ ap (λ (k : ℕ). 44 + 2 * k) n) in
-      let walk : w ≡ samples_from 44 w.rate w.samples = plain_walk file w.rate w.samples p in
-      let cells : samples ≡ samples_at file 44 w.samples = reads.cells
-      ∙ ap (λ (u : Verdict). left u (samples_at file w.at w.samples) out) (sym (read_by file out samples r reads) ∙ a)
-      ∙ ap (λ (k : ℕ). samples_at file k w.samples) (ap (λ (x : Walk). x.at) walk) in
-      let many : length samples ≡ w.samples = ap length cells ∙ samples_length file 44 w.samples in
-      let fit = subst (λ (xs : List Float). length xs ≤ first_unfit xs) (sym cells) (read_fit file bytes 44 w.samples) in
+      let (s, walk, is, room, found) = read_told file out samples r reads w a in
+      let rate : w.rate ≡ s.rate = ap (λ (x : Wav). x.rate) is in let n : w.samples ≡ s.count = ap (λ (x : Wav). x.samples) is in
+      let p = tight_plain file s walk (long ∙ ap (λ (k : ℕ). 44 + 2 * k) n) in
+      let stands : s ≡ samples_from 44 s.rate s.count = cc (walk, plain_walk file s.rate s.count p) in
+      let cells : samples ≡ samples_at file 44 s.count = found ∙ ap (λ (k : ℕ). samples_at file k s.count) (ap (λ (x : Samples). x.at) stands) in
+      let many : length samples ≡ s.count = ap length cells ∙ samples_length file 44 s.count in
+      let fit = subst (λ (xs : List Float). length xs ≤ first_unfit xs) (sym cells) (read_fit file bytes 44 s.count) in
       let few : length samples ≤ most_samples = omega (arith, p.whole, number_below 4 file 4 bytes, many) in
-      let ok = write_accepted r.rate samples (length before) (omega (arith, rate, p.some)) (omega (arith, rate, p.most)) few
+      let ok = write_accepted w.rate samples (length before) (omega (arith, rate, p.some)) (omega (arith, rate, p.most)) few
       (omega (arith, e, p.long, many)) fit in (
         writes.answer ∙ ok,
-        settled _ _ _ _ _ writes ok ∙ ap₂ (λ (k : ℕ) (xs : List Float). file_of k xs) rate cells ∙ back p,
+        settled _ _ _ _ _ writes ok ∙ ap₂ (λ (k : ℕ) (xs : List Float). file_of k xs) rate cells ∙ back s.rate s.count p,
       )
 
 -- ---- a file that is seen through windows
 
 -- at each place 24 bytes, or all to the file's end, and the walk tells what measuring answers
-pub measure_windows : (file : List ℕ) (size : ℕ → ℕ) → ((at : ℕ) → min 24 (length file - at) ≤ size at) → (m : Wav) → Measures file m
-    → m ≡ told (walk_in (λ at. take (size at) (drop at file)) (length file)).verdict (walk_in (λ at. take (size at) (drop at file)) (length file))
-measure_windows file size enough m c = c.answer ∙ ap (λ (w : Walk). told w.verdict w) (sym (walk_window file size enough))
+pub measure_windows : (file : List ℕ) (size : ℕ → ℕ) → ((at : ℕ) → min 24 (length file - at) ≤ size at) → (m : Result Wav Refusal) → Measures file m
+    → m ≡ told Accepted (walk_in (λ at. take (size at) (drop at file)) (length file))
+measure_windows file size enough m c = c.answer ∙ ap (told Accepted) (sym (walk_window file size enough))
 
 -- and any samples that are read are those of any window that holds their bytes, from the place on where the walk through windows finds them
-pub read_windows : (file : List ℕ) (size : ℕ → ℕ) → ((at : ℕ) → min 24 (length file - at) ≤ size at) → (before after : List Float) (r : Wav)
-    → Reads file before r after → r.verdict ≡ Accepted → (i m p k from : ℕ) → i + m ≤ r.samples
-    → p + from ≡ (walk_in (λ at. take (size at) (drop at file)) (length file)).at + 2 * i → from + 2 * m ≤ k
+pub read_windows : (file : List ℕ) (size : ℕ → ℕ) → ((at : ℕ) → min 24 (length file - at) ≤ size at) → (before after : List Float) (r : Result Wav Refusal)
+    → Reads file before r after → (w : Wav) → r ≡ Ok w → (s : Samples) → walk_in (λ at. take (size at) (drop at file)) (length file) ≡ Ok s
+    → (i m p k from : ℕ) → i + m ≤ w.samples → p + from ≡ s.at + 2 * i → from + 2 * m ≤ k
     → take m (drop i after) ≡ samples_at (take k (drop p file)) from m
-read_windows file size enough before after r reads a i m p k from l e h =
-    let w = walk_of file in let ok = sym (read_by file before after r reads) ∙ a in
-    let n : r.samples ≡ w.samples = ap (λ (x : Wav). x.samples) (reads.answer ∙ ap (λ (u : Verdict). told u w) ok) in
-    let place : w.at + 2 * i ≡ p + from = sym (e ∙ ap (λ (x : Walk). x.at + 2 * i) (walk_window file size enough)) in
-    let rest = w.samples - (i + m) in let all : w.samples ≡ i + (m + rest) = omega (arith, l, n) in
-    let front = samples_at file w.at i in let mid = samples_at file (w.at + 2 * i) m in let back = samples_at file (w.at + 2 * i + 2 * m) rest in
-    let cells : after ≡ front ++ (mid ++ back) = reads.cells ∙ ap (λ (u : Verdict). left u (samples_at file w.at w.samples) before) ok
-    ∙ ap (samples_at file w.at) all ∙ samples_cut file w.at i (m + rest)
-    ∙ ap (λ (ys : List Float). front ++ ys) (samples_cut file (w.at + 2 * i) m rest) in
-    ap (λ (ys : List Float). take m (drop i ys)) cells
-    ∙ ap (take m) (drop_at front (mid ++ back) i (samples_length file w.at i)) ∙ take_at mid back m (samples_length file (w.at + 2 * i) m)
+read_windows file size enough before after r reads w a s walk i m p k from l e h =
+    let (t, found, is, room, cells) = read_told file before after r reads w a in
+    let same : t ≡ s = cc (found, sym (walk_window file size enough) ∙ walk) in
+    let n : w.samples ≡ s.count = ap (λ (x : Wav). x.samples) is ∙ ap (λ (x : Samples). x.count) same in
+    let place : s.at + 2 * i ≡ p + from = sym e in
+    let rest = s.count - (i + m) in let all : s.count ≡ i + (m + rest) = omega (arith, l, n) in
+    let front = samples_at file s.at i in let mid = samples_at file (s.at + 2 * i) m in let back = samples_at file (s.at + 2 * i + 2 * m) rest in
+    let parts : after ≡ front ++ (mid ++ back) = cells ∙ ap (λ (x : Samples). samples_at file x.at x.count) same
+    ∙ ap (samples_at file s.at) all ∙ samples_cut file s.at i (m + rest)
+    ∙ ap (λ (ys : List Float). front ++ ys) (samples_cut file (s.at + 2 * i) m rest) in
+    ap (λ (ys : List Float). take m (drop i ys)) parts
+    ∙ ap (take m) (drop_at front (mid ++ back) i (samples_length file s.at i)) ∙ take_at mid back m (samples_length file (s.at + 2 * i) m)
     ∙ ap (λ (j : ℕ). samples_at file j m) place ∙ sym (samples_window file p k from m h)

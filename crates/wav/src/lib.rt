@@ -4,106 +4,85 @@
 pub mod inner;
 
 ghost use Rattle.std.specs.Prelude.{◌≡◌};
-ghost use Rattle.wav.specs.Wav.{none, Measures, Reads, Writes, write_verdict};
+ghost use Rattle.wav.specs.Wav.{counted, Measures, Reads, Writes, write_verdict};
 
 use crate::inner::header::{header, lay};
-use chunks::inner::walk::walk_over;
+use chunks::inner::walk::{Samples, walk_over};
 use fields::inner::fields::FASTEST;
 use pcm::inner::samples::{first_unfit, read_samples, write_samples};
 use refusal::{Refusal, Verdict};
 
-// What a file that is read answers: the rate and how many samples, 0 on a refusal.
+// The most samples of a file: its size less 8 is the last even number that four bytes hold.
+const MOST_SAMPLES: usize = 2147483629;
+
+// What a file that is read answers: the rate and how many samples.
 #[derive(Clone, Copy)]
 pub struct Wav {
-    pub verdict: Verdict,
     pub rate: u32,
     pub samples: usize,
 }
 
-// The answer beside a refusal.
-fn refused(why: Refusal) -> Wav
-    ensures { result ≡ none why }
-{
-    Wav {
-        verdict: Verdict::Refused(why),
-        rate: 0,
-        samples: 0,
+// What is told of samples that a walk has found.
+impl From<Samples> for Wav {
+    ghost from_gives = { λ found wav. wav ≡ counted found };
+
+    fn from(found: Samples) -> Wav {
+        Wav {
+            rate: found.rate,
+            samples: found.count,
+        }
     }
 }
 
 // The rate of a file, and how many samples it holds.
-pub fn measure(file: &[u8]) -> Wav
+pub fn measure(file: &[u8]) -> Result<Wav, Refusal>
     ensures { Measures file.now result }
 {
-    let w = walk_over(file);
-    let verdict = w.verdict;
-    match verdict {
-        Verdict::Accepted => Wav {
-            verdict: Verdict::Accepted,
-            rate: w.rate,
-            samples: w.samples,
-        },
-        Verdict::Refused(why) => refused(why),
-    }
+    Ok(Wav::from(walk_over(file)?))
 }
 
 // The samples of a file, with its rate and how many they are.
-pub fn read(file: &[u8], output: &mut [f32]) -> Wav
+#[tactic(auto, using(chunks::proofs::Walks::walk_inside), unfolding(crate::specs::Wav::read_verdict))]
+pub fn read(file: &[u8], output: &mut [f32]) -> Result<Wav, Refusal>
     ensures { Reads file.now output.old result output.new }
 {
-    let w = walk_over(file);
-    let verdict = w.verdict;
-    match verdict {
-        Verdict::Accepted => {
-            if output.len() != w.samples {
-                return refused(Refusal::Length(1));
-            }
-            read_samples(file, w.at, output);
-            Wav {
-                verdict: Verdict::Accepted,
-                rate: w.rate,
-                samples: w.samples,
-            }
-        }
-        Verdict::Refused(why) => refused(why),
+    let found = walk_over(file)?;
+    if output.len() != found.count {
+        return Err(Refusal::Length(1));
     }
+    read_samples(file, found.at, output);
+    Ok(Wav::from(found))
 }
 
 // The refusals of a file to write.
+#[tactic(auto, unfolding(crate::specs::Wav::write_verdict))]
 fn lent(rate: u32, samples: &[f32], file: usize) -> Verdict
     ensures { result ≡ write_verdict rate samples.now file }
 {
-    if rate == 0 {
-        return Verdict::Refused(Refusal::Wav(24));
-    }
-    if rate as usize > FASTEST {
-        return Verdict::Refused(Refusal::Wav(24));
+    if rate == 0 || rate as usize > FASTEST {
+        return Err(Refusal::Wav(24));
     }
     let n = samples.len();
-    if n > 2147483629 {
-        return Verdict::Refused(Refusal::Length(0));
+    if n > MOST_SAMPLES {
+        return Err(Refusal::Length(0));
     }
     if file != 44 + 2 * n {
-        return Verdict::Refused(Refusal::Length(1));
+        return Err(Refusal::Length(1));
     }
     let unfit = first_unfit(samples);
     if unfit < n {
-        return Verdict::Refused(Refusal::Number(unfit));
+        return Err(Refusal::Number(unfit));
     }
-    Verdict::Accepted
+    Ok(())
 }
 
 // A file of samples.
+#[tactic(auto, using(crate::proofs::Calls::write_told, crate::proofs::Files::file_made))]
 pub fn write(rate: u32, samples: &[f32], file: &mut [u8]) -> Verdict
     ensures { Writes rate samples.now file.old result file.new }
 {
-    match lent(rate, samples, file.len()) {
-        Verdict::Accepted => {
-            let head = header(rate, samples.len());
-            lay(&head, file);
-            write_samples(samples, file, 44);
-            Verdict::Accepted
-        }
-        Verdict::Refused(why) => Verdict::Refused(why),
-    }
+    lent(rate, samples, file.len())?;
+    lay(&header(rate, samples.len()), file);
+    write_samples(samples, file, 44);
+    Ok(())
 }

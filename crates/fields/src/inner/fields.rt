@@ -1,153 +1,83 @@
-// The verdict on a file's mark, and on a chunk, by its fields in the order of the file.
-ghost use Rattle.std.specs.Prelude.{◌≡◌, ◌-◌, ◌≤◌, min, length};
-ghost use Rattle.refusal.specs.Refusal.{verdict};
-ghost use Rattle.fields.specs.Parts.{Shows};
+// The verdict on a file's mark, and on a chunk with what it tells, by its fields in the order of the file.
+ghost use Rattle.std.specs.Prelude.{◌≡◌, ◌+◌, ◌-◌, ◌/◌, ◌≤◌, min, length};
+ghost use Rattle.refusal.specs.Refusal.{verdict, granted};
+ghost use Rattle.little.specs.Numbers.{number_at};
 ghost use Rattle.fields.specs.Fields.{head_rows, kind_rows, rate_rows, format_rows, data_rows, other_rows};
 
-use little::inner::numbers::{four, two};
+use crate::inner::view::View;
+use little::inner::numbers::four;
 use refusal::{Refusal, Verdict};
-
-// 'RIFF' and 'WAVE', each the number of its four letters.
-const RIFF: usize = 1179011410;
-
-const WAVE: usize = 1163280727;
 
 // The largest rate.
 pub const FASTEST: usize = 192000;
 
-// The verdict on a file's mark.
+// The verdict on the mark of a file of so many bytes.
 pub fn head(window: &[u8], total: usize) -> Verdict
     requires { min 12 total ≤ length window.now }
     ensures { result ≡ verdict (head_rows window.now 0 total total) }
 {
-    if total < 4 {
-        return Err(Refusal::Wav(total));
-    }
-    if four(window, 0) != RIFF {
-        return Err(Refusal::Wav(0));
-    }
-    if total < 8 {
-        return Err(Refusal::Wav(total));
-    }
-    if four(window, 4) != total - 8 {
-        return Err(Refusal::Wav(4));
-    }
-    if total < 12 {
-        return Err(Refusal::Wav(total));
-    }
-    if four(window, 8) != WAVE {
-        return Err(Refusal::Wav(8));
-    }
-    Ok(())
+    let mark: View<12> = View {
+        window,
+        at: 0,
+        total,
+    };
+    mark.four_is(0, four(b"RIFF", 0))?;
+    mark.four_is(4, total.saturating_sub(8))?;
+    mark.four_is(8, four(b"WAVE", 0))
 }
 
 // The verdict on the kind of a format.
-fn kind(window: &[u8], at: usize, total: usize) -> Verdict
-    requires { Shows window.now at total 4 }
-    ensures { result ≡ verdict (kind_rows window.now at (total - at) total) }
+fn kind(chunk: View<24>) -> Verdict
+    ensures { result ≡ verdict (kind_rows chunk.entry.window.now chunk.entry.at (chunk.entry.total - chunk.entry.at) chunk.entry.total) }
 {
-    let left = total - at;
-    if left < 8 {
-        return Err(Refusal::Wav(total));
-    }
-    if four(window, 4) != 16 {
-        return Err(Refusal::Wav(at + 4));
-    }
-    if left < 10 {
-        return Err(Refusal::Wav(total));
-    }
-    if two(window, 8) != 1 {
-        return Err(Refusal::Wav(at + 8));
-    }
-    if left < 12 {
-        return Err(Refusal::Wav(total));
-    }
-    if two(window, 10) != 1 {
-        return Err(Refusal::Wav(at + 10));
-    }
-    Ok(())
+    chunk.four_is(4, 16)?;
+    chunk.two_is(8, 1)?;
+    chunk.two_is(10, 1)
 }
 
-// The verdict on the rate of a format, and what follows from it.
-fn rate(window: &[u8], at: usize, total: usize) -> Verdict
-    requires { Shows window.now at total 12 }
-    ensures { result ≡ verdict (rate_rows window.now at (total - at) total) }
+// The rate of a format, and the verdict on it and on what follows from it.
+fn rate(chunk: View<24>) -> Result<u32, Refusal>
+    ensures { result ≡ granted (verdict (rate_rows chunk.entry.window.now chunk.entry.at (chunk.entry.total - chunk.entry.at) chunk.entry.total))
+        (number_at 4 chunk.entry.window.now 12) }
 {
-    let left = total - at;
-    if left < 16 {
-        return Err(Refusal::Wav(total));
+    let rate = chunk.four(12)?;
+    if rate == 0 || rate > FASTEST {
+        return Err(Refusal::Wav(chunk.at + 12));
     }
-    let rate = four(window, 12);
-    if rate == 0 {
-        return Err(Refusal::Wav(at + 12));
-    }
-    if rate > FASTEST {
-        return Err(Refusal::Wav(at + 12));
-    }
-    if left < 20 {
-        return Err(Refusal::Wav(total));
-    }
-    if four(window, 16) != 2 * rate {
-        return Err(Refusal::Wav(at + 16));
-    }
-    if left < 22 {
-        return Err(Refusal::Wav(total));
-    }
-    if two(window, 20) != 2 {
-        return Err(Refusal::Wav(at + 20));
-    }
-    if left < 24 {
-        return Err(Refusal::Wav(total));
-    }
-    if two(window, 22) != 16 {
-        return Err(Refusal::Wav(at + 22));
-    }
-    Ok(())
+    chunk.four_is(16, 2 * rate)?;
+    chunk.two_is(20, 2)?;
+    chunk.two_is(22, 16)?;
+    Ok(rate as u32)
 }
 
-// The verdict on a format.
-pub fn format(window: &[u8], at: usize, total: usize) -> Verdict
-    requires { Shows window.now at total 4 }
-    ensures { result ≡ verdict (format_rows window.now at (total - at) total) }
+// The rate of a format, and the verdict on it.
+pub fn format(chunk: View<24>) -> Result<u32, Refusal>
+    ensures { result ≡ granted (verdict (format_rows chunk.entry.window.now chunk.entry.at (chunk.entry.total - chunk.entry.at) chunk.entry.total))
+        (number_at 4 chunk.entry.window.now 12) }
 {
-    kind(window, at, total)?;
-    rate(window, at, total)
+    kind(chunk)?;
+    rate(chunk)
 }
 
-// The verdict on a chunk of samples, where the format before it had this rate.
-pub fn data(window: &[u8], at: usize, rate: u32, total: usize) -> Verdict
-    requires { Shows window.now at total 4 }
-    ensures { result ≡ verdict (data_rows window.now at (total - at) total rate) }
+// How many samples a chunk of samples holds, and the verdict on it.
+pub fn data(chunk: View<24>) -> Result<usize, Refusal>
+    ensures { result ≡ granted (verdict (data_rows chunk.entry.window.now chunk.entry.at (chunk.entry.total - chunk.entry.at) chunk.entry.total))
+        (number_at 4 chunk.entry.window.now 4 / 2) }
 {
-    if rate == 0 {
-        return Err(Refusal::Wav(at));
-    }
-    let left = total - at;
-    if left < 8 {
-        return Err(Refusal::Wav(total));
-    }
-    let size = four(window, 4);
+    let size = chunk.four(4)?;
     if size % 2 != 0 {
-        return Err(Refusal::Wav(at + 4));
+        return Err(Refusal::Wav(chunk.at + 4));
     }
-    if left - 8 < size {
-        return Err(Refusal::Wav(total));
-    }
-    Ok(())
+    chunk.has(8 + size)?;
+    Ok(size / 2)
 }
 
-// The verdict on any other chunk.
-pub fn other(window: &[u8], at: usize, total: usize) -> Verdict
-    requires { Shows window.now at total 4 }
-    ensures { result ≡ verdict (other_rows window.now at (total - at) total) }
+// The size of any other chunk, less its pad byte, and the verdict on it.
+pub fn other(chunk: View<24>) -> Result<usize, Refusal>
+    ensures { result ≡ granted (verdict (other_rows chunk.entry.window.now chunk.entry.at (chunk.entry.total - chunk.entry.at) chunk.entry.total))
+        (number_at 4 chunk.entry.window.now 4) }
 {
-    let left = total - at;
-    if left < 8 {
-        return Err(Refusal::Wav(total));
-    }
-    let size = four(window, 4);
-    if left - 8 < size + size % 2 {
-        return Err(Refusal::Wav(total));
-    }
-    Ok(())
+    let size = chunk.four(4)?;
+    chunk.has(8 + size + size % 2)?;
+    Ok(size)
 }

@@ -1,48 +1,65 @@
 -- `walk_over` steps over the chunks of a file; the walk that is left leads to the same end. Assumes nothing.
-use Rattle.sequences.proofs.Basics.{zero-le, ◌≡◌, sym, ap, ◌∙◌, subst, ℕ, ◌<◌, arith, List, length, drop}
-use Rattle.sequences.proofs.Pasted.{take_rest, tail_length}
-use Rattle.chunks.specs.Chunks.{stepped, walked, walk_of}
+use Rattle.std.proofs.lemmas.Result.{err_from_is_err_and}
+use Rattle.sequences.proofs.Basics.{◌≡◌, sym, ap, ◌∙◌, subst, ℕ, ◌+◌, ◌<◌, ◌≤◌, ◌-◌, List, length, drop, take}
+use Rattle.sequences.proofs.Pasted.{take_rest}
+use Rattle.std.specs.Prelude.{Option, Ok}
+use Rattle.chunks.specs.Chunks.{Walking, begun, stepped, walked, walk_of}
 use Rattle.chunks.specs.declared.inner.walk.Walk.{Walk}
-use Rattle.chunks.proofs.Walks.{Within, begun_within, step_further, walked_ended, room, room_start, room_less, room_same}
+use Rattle.chunks.specs.declared.inner.walk.Walk.TheVariants.{Chunk}
+use Rattle.chunks.proofs.Going.{at_chunk}
+use Rattle.chunks.proofs.Walks.{Within, begun_within, step_within, Leads, leads_begun, leads_on, room, room_less}
 use Rattle.chunks.proofs.inner.walk.walk_over.Goals as goal
 
 -- what a whole file shows
 abbrev rest : List ℕ → ℕ → List ℕ
 rest file at = drop at file
 
-pub begin-w-requires : goal.begin-w-requires
-begin-w-requires c = omega arith
+-- a walk that comes to the file's end
+abbrev Leading : List ℕ → Walking → Type 0
+Leading file r = Within (length file) r × Leads (rest file) (length file) (walk_of file) r
 
-pub loop-w-init : goal.loop-w-init
+-- its beginning is one
+begins : (file : List ℕ) (r s : Walking) → r ≡ begun file (length file) → r ≡ s → Leading file s
 unfolding walk_of
-loop-w-init c = let file = c.args.file.now in subst (λ (w : Walk). Within (length file) w × (walked (room (rest file) (length file) w) (rest file) (length
-    file) w ≡ walk_of file))
-    (sym c.begin-w.ensures)
-    (λ t. (begun_within file (length file) t).1, room_start (rest file) (length file))
+begins file r s e f =
+    let first = begun file (length file) in
+    subst (Leading file) (sym e ∙ f) (
+      at_chunk (λ on. (4 + 8 ≤ on) × (on ≤ length file)) (λ on. on ≤ length file) (λ on f. f.1) first (begun_within file (length file)),
+      leads_begun (rest file) (length file),
+    )
 
-pub slice_bounds-step-count : goal.slice_bounds-step-count
-slice_bounds-step-count c = c.loop-w.invariant.0 c.loop-w-test.true
+-- and so is each step, which leaves less room
+steps : (file : List ℕ) (w : Walk) (at : ℕ) (rate : Option ℕ) (r s : Walking) → Leading file (Ok w) → w ≡ Chunk at rate
+    → r ≡ stepped (take (length file - at) (drop at file)) at rate (length file) → r ≡ s
+    → Leading file s × (room (rest file) (length file) s < room (rest file) (length file) (Ok w))
+steps file w at rate r s l e f g =
+    let on : Leading file (Ok (Chunk at rate)) = subst (λ (v : Walk). Leading file (Ok v)) e l in
+    let is : stepped (drop at file) at rate (length file) ≡ s
+    = sym (f ∙ ap (λ (bs : List ℕ). stepped bs at rate (length file)) (take_rest at file)) ∙ g in
+    subst (λ (x : Walking). Leading file x × (room (rest file) (length file) x < room (rest file) (length file) (Ok w))) is (
+      (step_within (drop at file) at rate (length file), leads_on (rest file) (length file) (walk_of file) at rate on.0 on.1),
+      rw e (room_less (rest file) (length file) at rate on.0),
+    )
 
-pub slice_bounds-step-start : goal.slice_bounds-step-start
-slice_bounds-step-start c = c.loop-w.invariant.0 c.loop-w-test.true
+pub returns-in_err-walk : goal.returns-in_err-walk
+unfolding walked
+returns-in_err-walk c = let p = err_from_is_err_and c.from_residual.result c.from_residual.ensures.1 in
+    let end = (begins c.args.file.now _ _ c.begin.ensures c.in_err-walk.was).1 in rw (p.1, p.2) end
 
-pub slice_bounds-step-end : goal.slice_bounds-step-end
-slice_bounds-step-end c = omega arith
+pub loop-walk-init : goal.loop-walk-init
+loop-walk-init c = begins c.args.file.now _ _ c.begin.ensures c.in_ok-walk.was
 
-pub step-w-requires : goal.step-w-requires
-step-w-requires c = let file = c.args.file.now in (c.loop-w.invariant.0 c.loop-w-test.true, zero-le, omega (arith, tail_length c.loop-w.w.at file))
+pub returns-in_err-walk-in-Chunk : goal.returns-in_err-walk-in-Chunk
+unfolding walked
+returns-in_err-walk-in-Chunk c = let p = err_from_is_err_and c.from_residual-in_err-walk-in-Chunk.result c.from_residual-in_err-walk-in-Chunk.ensures.1 in
+    let end = (steps c.args.file.now _ _ _ _ _ c.loop-walk.invariant c.in-Chunk.is c.step.ensures c.in_err-walk-in-Chunk.was).0.1 in rw (p.1, p.2) end
 
-pub loop-w-smaller : goal.loop-w-smaller
-loop-w-smaller c = let w = c.loop-w.w in let file = c.args.file.now in subst (λ (r : Walk). room (rest file) (length file) r < room (rest file) (length file) w)
-    (sym (c.step-w.ensures ∙ ap (λ (bs : List ℕ). stepped bs w.at w.rate (length file)) (take_rest w.at file)))
-    (room_less (rest file) (length file) w c.loop-w-test.true)
+pub loop-walk-smaller : goal.loop-walk-smaller
+loop-walk-smaller c = (steps c.args.file.now _ _ _ _ _ c.loop-walk.invariant c.in-Chunk.is c.step.ensures c.in_ok-walk-in-Chunk.was).1
 
-pub loop-w-preserved : goal.loop-w-preserved
-loop-w-preserved c = let w = c.loop-w.w in let file = c.args.file.now in subst (λ (r : Walk). Within (length file) r × (walked (room (rest file) (length
-    file) r) (rest file) (length file) r ≡ walk_of file))
-    (sym (c.step-w.ensures ∙ ap (λ (bs : List ℕ). stepped bs w.at w.rate (length file)) (take_rest w.at file)))
-    (λ t. (step_further (drop w.at file) w.at w.rate (length file) t).1, room_same (rest file) (length file) w c.loop-w-test.true ∙ c.loop-w.invariant.1)
+pub loop-walk-preserved : goal.loop-walk-preserved
+loop-walk-preserved c = (steps c.args.file.now _ _ _ _ _ c.loop-walk.invariant c.in-Chunk.is c.step.ensures c.in_ok-walk-in-Chunk.was).0
 
-pub returns : goal.returns
-returns c = let file = c.args.file.now in sym (walked_ended (rest file) (length file) (room (rest file) (length file) c.loop-w.w) c.loop-w.w
-    c.loop-w-test.false) ∙ c.loop-w.invariant.1
+pub returns-in-End : goal.returns-in-End
+unfolding walked
+returns-in-End c = (subst (λ (v : Walk). Leading c.args.file.now (Ok v)) c.in-End.is c.loop-walk.invariant).1
