@@ -10,7 +10,7 @@ ghost use Rattle.radices.specs.Lists.{product};
 
 use halving::inner::halving::half_list;
 use merging::Merges;
-use merging::inner::merging::{ascending, counts_of, merge_all, size};
+use merging::inner::merging::Tally;
 use radices::inner::lists::{first_bad, running_product};
 use refusal::{Refusal, Verdict};
 
@@ -39,16 +39,13 @@ pub fn plan(list: &[u8]) -> Planned
     if list.len() == 0 {
         return refused(Refusal::Empty);
     }
-    let bad = first_bad(list);
-    if bad < list.len() {
+    if let Some(bad) = first_bad(list) {
         return refused(Refusal::NoRadix(bad));
     }
-    let run = running_product(list);
-    let over = run.at;
-    if over < list.len() {
-        return refused(Refusal::TooLarge(over));
-    }
-    let n = run.product;
+    let n = match running_product(list) {
+        Ok(n) => n,
+        Err(over) => return refused(Refusal::TooLarge(over)),
+    };
     if n % 2 == 1 {
         return refused(Refusal::Odd);
     }
@@ -89,7 +86,7 @@ fn accepted(list: &[u8], n: usize) -> Planned
     let half = half_list(list);
     let entries = half.entries;
     let count = half.count;
-    let merged = merge_all(counts_of(&entries[..count]));
+    let merged = Tally::of(&entries[..count]).merge_all();
     let tally = merged.tally;
     let merges = merged.merges;
     Planned {
@@ -97,8 +94,8 @@ fn accepted(list: &[u8], n: usize) -> Planned
         plan: Record {
             n,
             half: n / 2,
-            count: size(tally),
-            radices: ascending(tally),
+            count: tally.size(),
+            radices: tally.ascending(),
         },
         merges,
     }
