@@ -1,13 +1,13 @@
 -- Laws of an accepted plan's stages: bounds of its radices, strides and counts, and sums over stages. Assumes nothing.
 use Rattle.sequences.proofs.Basics.{◌≡◌, refl, sym, ap, ◌∙◌, ℕ, zero, suc, ◌+◌, ◌-◌, ◌*◌, ◌/◌, ◌<◌, ◌≤◌, ◌%◌, mul-le-mul, mul-le-mul_left, mul-one, div-le_self}
 use Rattle.sequences.proofs.Basics.{add-zero, add-one, arith, true, false, Bool, cond, List, eqb, get_or, take, drop, take-append-drop, take-take, eqb-false}
-use Rattle.sequences.proofs.Basics.{eqb-true}
-use Rattle.radices.specs.Lists.{product}
+use Rattle.sequences.proofs.Basics.{eqb-true, le_of_eq, one-mul, length}
+use Rattle.radices.specs.Lists.{product, first_over}
 use Rattle.plan.specs.Record.{is_planned}
 use Rattle.counts.specs.Counts.{radix, stride, twiddle_count, twiddle_start, record_verdict, end_count}
 use Rattle.plan.specs.declared.Record.{Record}
-use Rattle.radices.proofs.Lists.{product_append, product_next, get_d_any}
-use Rattle.radices.proofs.Products.{Radical, radical_parts, product_positive}
+use Rattle.radices.proofs.Lists.{product_append, get_d_any}
+use Rattle.radices.proofs.Products.{Radical, radical_parts, product_positive, small_over_none}
 use Rattle.refusal.specs.declared.Refusal.TheVariants.{NotPlanned}
 use Rattle.refusal.specs.Refusal.{Accepted, Refused}
 use Rattle.plan.proofs.Bounds.{plan_order, plan_sized, plan_half, plan_long, plan_radical, plan_radix_bounds}
@@ -72,9 +72,14 @@ module _ (p : Record) (e : is_planned p ≡ true) where
       rw (← cut) (product_prefix (take p.count p.radices) i (plan_radical p e)) in
       omega (arith, plan_half p e, (plan_sized p e).made)
 
-  pub stride_next : (i : ℕ) → i < p.count → stride p.radices (i + 1) ≡ stride p.radices i * get_or p.radices i 0
+  -- the radices before stage i stay within the largest length
+  pub stride_within : (i : ℕ) → i ≤ p.count → length (take i p.radices) ≤ first_over 1 (take i p.radices)
   unfolding stride
-  stride_next i h = product_next p.radices i (omega (arith, plan_long p e))
+  stride_within i h =
+      let cut = take-take i p.count p.radices h in
+      let used = take p.count p.radices in
+      let rest = radical_parts (take i used) (drop i used) (rw (take-append-drop i used) (plan_radical p e)) in
+      le_of_eq (sym (small_over_none 1 (take i p.radices) (rw cut at rest.0) (rw one-mul (omega (arith, stride_small i h)))))
 
   -- ---- twiddles
 

@@ -1,5 +1,5 @@
 -- Laws of the half list. Assumes nothing.
-use Rattle.sequences.proofs.Basics.{◌≡◌, refl, sym, ap, ◌∙◌, ℕ, suc, ◌+◌, ◌-◌, ◌*◌, ◌%◌, ◌<◌, ◌≤◌, add-mul-mod_self_right, add-one, arith, Bool, true, false}
+use Rattle.sequences.proofs.Basics.{◌≡◌, refl, sym, ap, ◌∙◌, ℕ, suc, ◌+◌, ◌*◌, ◌%◌, ◌<◌, ◌≤◌, add-mul-mod_self_right, add-one, arith, Bool, true, false}
 use Rattle.sequences.proofs.Basics.{cond, inl, inr, List, [], ◌∷◌, ◌++◌, eqb, length, get_or, take, drop, set, length-append, length-take}
 use Rattle.sequences.proofs.Basics.{length-drop, split_at}
 use Rattle.sequences.proofs.Basics.{set_split, ltb-true, ltb-false, eqb-true, eqb-false}
@@ -39,34 +39,18 @@ tells xs = go (has 2 xs) (has 8 xs) (has 4 xs) refl refl refl
     go false false true e f g = let h = ltb-true _ _ g in (h, (index_at 4 xs h, refl))
     go false false false e f g = (ltb-false _ _ e, (ltb-false _ _ f, ltb-false _ _ g))
 
-pub halved_goes : (at : ℕ) (xs : List ℕ) → halved (Goes at) xs ≡ take at xs ++ drop (at + 1) xs
-unfolding halved
-halved_goes at xs = rw add-one
-
-pub halved_becomes : (at v : ℕ) (xs : List ℕ) → halved (Becomes at v) xs ≡ set xs at v
-unfolding halved
-halved_becomes at v xs = refl
-
 -- the half list, where it is known how the list is halved
-pub half_by : (xs : List ℕ) (how : Halving) → halving xs ≡ how → half xs ≡ halved how xs
-unfolding half
-half_by xs how e = ap (λ (x : Halving). halved x xs) e
+pub half_goes : (xs : List ℕ) (at : ℕ) → halving xs ≡ Goes at → half xs ≡ take at xs ++ drop (at + 1) xs
+unfolding half halved
+half_goes xs at e = rw (e, add-one)
 
-pub goes_within : (xs : List ℕ) (at : ℕ) → halving xs ≡ Goes at → at < length xs
-unfolding Tells
-goes_within xs at e = (rw e at (tells xs)).0
-
-pub becomes_within : (xs : List ℕ) (at v : ℕ) → halving xs ≡ Becomes at v → at < length xs
-unfolding Tells
-becomes_within xs at v e = (rw e at (tells xs)).0
+pub half_becomes : (xs : List ℕ) (at v : ℕ) → halving xs ≡ Becomes at v → half xs ≡ set xs at v
+unfolding half halved
+half_becomes xs at v e = rw e
 
 pub half_stays : (xs : List ℕ) → halving xs ≡ Stays → half xs ≡ xs
 unfolding half halved
-half_stays xs e = ap (λ (x : Halving). halved x xs) e
-
--- the list without an entry is one shorter
-pub length_without : (xs : List ℕ) (at : ℕ) → at < length xs → length (take at xs ++ drop (at + 1) xs) ≡ length xs - 1
-length_without xs at h = simp (length-append, length-take, length-drop) (omega arith)
+half_stays xs e = rw e
 
 -- ---- the product of the half list
 

@@ -1,5 +1,5 @@
 -- The half list: which entry of the lent list goes or changes, and what is left. Assumes nothing.
-use Rattle.std.specs.Prelude.{ℕ, suc, Bool, cond, List, ◌++◌, ltb, length, take, drop, set}
+use Rattle.std.specs.Prelude.{ℕ, suc, ◌<◌, Bool, cond, List, ◌++◌, ltb, length, take, drop, set}
 use Rattle.radices.specs.Lists.{index_of}
 use Rattle.halving.specs.declared.inner.halving.Halving.{Halving}
 use Rattle.halving.specs.declared.inner.halving.Halving.TheVariants.{Goes, Becomes, Stays}
@@ -15,6 +15,12 @@ halving xs =
     (cond (has 8 xs) (Becomes (index_of 8 xs) 4)
     (cond (has 4 xs) (Becomes (index_of 4 xs) 2)
     Stays))
+
+-- the entry that goes or changes is one of the list
+abbrev pub Touches : List ℕ → Halving → Type 0
+Touches xs (Goes at) = at < length xs
+Touches xs (Becomes at to) = at < length xs
+Touches xs Stays = Unit {0}
 
 -- the list after that
 unfoldable pub halved : Halving → List ℕ → List ℕ

@@ -1,23 +1,18 @@
 -- Laws of merging: which rule comes first, that merging ends, what it keeps and what it leaves. Assumes nothing.
 use Rattle.sequences.proofs.Basics.{◌≡◌, refl, sym, ap, ◌∙◌, ℕ, zero, suc, ◌+◌, ◌*◌, ◌/◌, ◌%◌, ◌<◌, ◌≤◌, add-one, arith, Bool, true, false, cond, ◌&&◌}
 use Rattle.sequences.proofs.Basics.{true≢false, ◌⊎◌, inl, inr, ⊎_elim, List, [], ◌∷◌, ◌++◌, map, append_assoc, append-nil, leb, length, take, set, replicate}
-use Rattle.sequences.proofs.Basics.{length-append, length-replicate, length-set, take-suc-set, length-take-le, paste, leb-true, leb-false, le-leb, lt-leb}
-use Rattle.radices.proofs.Lists.{push_padded, filled_padded}
-use Rattle.radices.specs.Lists.{count_of, padded}
-use Rattle.merging.specs.Merging.{tally, total, applies, merge, first_rule, before, rules_up_to, rules, merged_by, merged, letter, letters, marked, merge_all}
+use Rattle.sequences.proofs.Basics.{length-append, length-replicate, length-set, take-suc-set, length-take-le, leb-true, leb-false, le-leb, lt-leb}
+use Rattle.radices.proofs.Lists.{push_padded}
+use Rattle.radices.specs.Lists.{padded}
+use Rattle.merging.specs.Merging.{total, applies, merge, first_rule, rules_up_to, rules, merged_by, merged, letter, letters, marked, merge_all}
 use Rattle.merging.specs.Merging.{sorted}
 use Rattle.merging.specs.declared.inner.merging.Tally.{Tally}
 use Rattle.merging.specs.declared.inner.merging.Merged.{Merged}
 use Rattle.merging.specs.declared.inner.merging.Rule.{Rule}
-use Rattle.merging.specs.declared.inner.merging.Rule.TheVariants.{A, B, C, D, None}
+use Rattle.merging.specs.declared.inner.merging.Rule.TheVariants.{A, B, C, D}
+use Rattle.std.proofs.Common.{Option, Some, None}
 
 -- ---- which rule comes first
-
-pub tally_is : (xs : List ℕ) (a b c d e f : ℕ) → a ≡ count_of 2 xs → b ≡ count_of 3 xs → c ≡ count_of 4 xs → d ≡ count_of 5 xs → e ≡ count_of 7 xs → f ≡
-    count_of 8 xs
-    → ◌≡◌ {A = Tally} (record { twos = a; threes = b; fours = c; fives = d; sevens = e; eights = f }) (tally xs)
-unfolding tally
-tally_is xs a b c d e f p q r s t u = rw (p, q, r, s, t, u)
 
 pub and_false : (b : Bool) → (b && false) ≡ false
 and_false true = refl
@@ -35,41 +30,45 @@ a_needs t (inr h) = simp (lt-leb 1 t.twos h) (and_false (leb 1 t.fours))
 
 -- The first rule, from what the tests before it found.
 module _ (t : Tally) where
-  pub first_a : 1 ≤ t.fours → 1 ≤ t.twos → first_rule t ≡ A
+  pub first_a : 1 ≤ t.fours → 1 ≤ t.twos → first_rule t ≡ Some A
   unfolding first_rule applies
   first_a p q = simp (le-leb 1 t.fours p, le-leb 1 t.twos q)
 
-  first_after_a : applies A t ≡ false → first_rule t ≡ cond (leb 3 t.twos) B (cond (leb 2 t.fours) C (cond (leb 2 t.twos) D None))
+  first_after_a : applies A t ≡ false → first_rule t ≡ cond (leb 3 t.twos) (Some B) (cond (leb 2 t.fours) (Some C) (cond (leb 2 t.twos) (Some D) None))
   unfolding first_rule applies
   first_after_a a = simp a
 
   module _ (a : applies A t ≡ false) where
-    pub first_b : 3 ≤ t.twos → first_rule t ≡ B
+    pub first_b : 3 ≤ t.twos → first_rule t ≡ Some B
     first_b p = first_after_a a ∙ simp (le-leb 3 t.twos p)
 
-    pub first_c : t.twos < 3 → 2 ≤ t.fours → first_rule t ≡ C
+    pub first_c : t.twos < 3 → 2 ≤ t.fours → first_rule t ≡ Some C
     first_c p q = first_after_a a ∙ simp (lt-leb 3 t.twos p, le-leb 2 t.fours q)
 
-    pub first_d : t.twos < 3 → t.fours < 2 → 2 ≤ t.twos → first_rule t ≡ D
+    pub first_d : t.twos < 3 → t.fours < 2 → 2 ≤ t.twos → first_rule t ≡ Some D
     first_d p q r = first_after_a a ∙ simp (lt-leb 3 t.twos p, lt-leb 2 t.fours q, le-leb 2 t.twos r)
 
     pub first_none : t.twos < 3 → t.fours < 2 → t.twos < 2 → first_rule t ≡ None
     first_none p q r = first_after_a a ∙ simp (lt-leb 3 t.twos p, lt-leb 2 t.fours q, lt-leb 2 t.twos r)
 
--- What the first rule tells of the radices: those that it takes are there, and of None that at most one is left.
-unfoldable pub Tells : Rule → Tally → Type 0
-Tells A t = (1 ≤ t.fours) × (1 ≤ t.twos)
-Tells B t = 3 ≤ t.twos
-Tells C t = 2 ≤ t.fours
-Tells D t = 2 ≤ t.twos
+-- What a rule tells of the radices: those that it takes are there.
+unfoldable pub Takes : Rule → Tally → Type 0
+Takes A t = (1 ≤ t.fours) × (1 ≤ t.twos)
+Takes B t = 3 ≤ t.twos
+Takes C t = 2 ≤ t.fours
+Takes D t = 2 ≤ t.twos
+
+-- What the first rule tells: that it finds what it takes, and where there is none, that at most one 2 or 4 is left.
+abbrev pub Tells : Option Rule → Tally → Type 0
+Tells (Some r) t = Takes r t
 Tells None t = t.twos + t.fours ≤ 1
 
 pub tells : (t : Tally) → Tells (first_rule t) t
-unfolding Tells first_rule applies
+unfolding Takes first_rule applies
 tells t = go (leb 1 t.fours) (leb 1 t.twos) (leb 3 t.twos) (leb 2 t.fours) (leb 2 t.twos) refl refl refl refl refl
   where
     go : (a b c d e : Bool) → leb 1 t.fours ≡ a → leb 1 t.twos ≡ b → leb 3 t.twos ≡ c → leb 2 t.fours ≡ d → leb 2 t.twos ≡ e
-        → Tells (cond (a && b) A (cond c B (cond d C (cond e D None)))) t
+        → Tells (cond (a && b) (Some A) (cond c (Some B) (cond d (Some C) (cond e (Some D) None)))) t
     go true true c d e p q r u v = (leb-true 1 t.fours p, leb-true 1 t.twos q)
     go true false true d e p q r u v = leb-true 3 t.twos r
     go true false false true e p q r u v = leb-true 2 t.fours u
@@ -80,8 +79,11 @@ tells t = go (leb 1 t.fours) (leb 1 t.twos) (leb 3 t.twos) (leb 2 t.fours) (leb 
     go false b false false true p q r u v = leb-true 2 t.twos v
     go false b false false false p q r u v = omega (arith, leb-false 1 t.fours p, leb-false 2 t.twos v)
 
-pub tells_as : (t : Tally) (rule r : Rule) → rule ≡ first_rule t → rule ≡ r → Tells r t
-tells_as t rule r e f = rw (← e, f) at (tells t)
+pub tells_takes : (t : Tally) (r : Rule) → first_rule t ≡ Some r → Takes r t
+tells_takes t r e = rw e at (tells t)
+
+pub tells_none : (t : Tally) → first_rule t ≡ None → t.twos + t.fours ≤ 1
+tells_none t e = rw e at (tells t)
 
 -- ---- what a rule does
 
@@ -114,104 +116,86 @@ keeps_on p q =
       fewer = omega arith;
     }
 
--- a rule that is not None, by its letter
-abbrev pub Merges : Rule → Type 0
-Merges r = letter r ≡ 0 → ⊥
-
-pub merge_keeps : (r : Rule) (t : Tally) → Tells r t → Keeps t (merge r t)
-unfolding Tells merge
+pub merge_keeps : (r : Rule) (t : Tally) → Takes r t → Keeps t (merge r t)
+unfolding Takes merge
 merge_keeps A t h = record { exponents = omega arith; threes = refl; fives = refl; sevens = refl; fewer = omega arith }
 merge_keeps B t h = record { exponents = omega arith; threes = refl; fives = refl; sevens = refl; fewer = omega arith }
 merge_keeps C t h = record { exponents = omega arith; threes = refl; fives = refl; sevens = refl; fewer = omega arith }
 merge_keeps D t h = record { exponents = omega arith; threes = refl; fives = refl; sevens = refl; fewer = omega arith }
-merge_keeps None t h = keeps_all t
 
 -- whichever rule it is, if it applies
 pub applied_keeps : (r : Rule) (t : Tally) → applies r t ≡ true → Keeps t (merge r t)
-unfolding applies Tells merge
+unfolding applies Takes merge
 applied_keeps A t e = let b = both (leb 1 t.fours) (leb 1 t.twos) e in merge_keeps A t (leb-true 1 t.fours b.0, leb-true 1 t.twos b.1)
 applied_keeps B t e = merge_keeps B t (leb-true 3 t.twos e)
 applied_keeps C t e = merge_keeps C t (leb-true 2 t.fours e)
 applied_keeps D t e = merge_keeps D t (leb-true 2 t.twos e)
-applied_keeps None t e = keeps_all t
 
-pub merge_falls : (r : Rule) (t : Tally) → Tells r t → Merges r → (low (merge r t) < low t) × (2 ≤ low t)
-unfolding Tells merge
-merge_falls A t h m = omega arith
-merge_falls B t h m = omega arith
-merge_falls C t h m = omega arith
-merge_falls D t h m = omega arith
-merge_falls None t h m = absurd (m refl)
+pub merge_falls : (r : Rule) (t : Tally) → Takes r t → (low (merge r t) < low t) × (2 ≤ low t)
+unfolding Takes merge
+merge_falls A t h = omega arith
+merge_falls B t h = omega arith
+merge_falls C t h = omega arith
+merge_falls D t h = omega arith
 
 -- ---- the rules in turn
 
-before_rule : (r : Rule) (rest : List Rule) → Merges r → before r rest ≡ r ∷ rest
-before_rule A rest m = refl
-before_rule B rest m = refl
-before_rule C rest m = refl
-before_rule D rest m = refl
-before_rule None rest m = absurd (m refl)
-
--- a rule merges, or there is none
-pub merges? : (r : Rule) → (r ≡ None) ⊎ Merges r
-merges? A = inr (λ (e : letter A ≡ 0). omega arith)
-merges? B = inr (λ (e : letter B ≡ 0). omega arith)
-merges? C = inr (λ (e : letter C ≡ 0). omega arith)
-merges? D = inr (λ (e : letter D ≡ 0). omega arith)
-merges? None = inl refl
+-- a rule applies, or there is none
+pub applies? : (o : Option Rule) → (o ≡ None) ⊎ ((r : Rule) × (o ≡ Some r))
+applies? None = inl refl
+applies? (Some r) = inr (r, refl)
 
 -- the first rule, with what it does
-pub falls_at : (t : Tally) → Merges (first_rule t) → (low (merge (first_rule t) t) < low t) × (2 ≤ low t)
-falls_at t m = merge_falls (first_rule t) t (tells t) m
+pub falls_at : (t : Tally) (r : Rule) → first_rule t ≡ Some r → (low (merge r t) < low t) × (2 ≤ low t)
+falls_at t r e = merge_falls r t (tells_takes t r e)
 
 pub none_at : (t : Tally) → low t ≤ 1 → first_rule t ≡ None
-none_at t h = ⊎_elim (λ e. e) (λ m. absurd (let f = falls_at t m in omega arith)) (merges? (first_rule t))
+none_at t h = ⊎_elim (λ e. e) (λ m. absurd (let f = falls_at t m.0 m.1 in omega arith)) (applies? (first_rule t))
 
 rules_none : (k : ℕ) (t : Tally) → first_rule t ≡ None → rules_up_to k t ≡ []
 unfolding rules_up_to
 rules_none zero t e = refl
 rules_none (suc k) t e = rw e
 
-rules_some : (k : ℕ) (t : Tally) → Merges (first_rule t) → rules_up_to (suc k) t ≡ first_rule t ∷ rules_up_to k (merge (first_rule t) t)
+rules_some : (k : ℕ) (t : Tally) (r : Rule) → first_rule t ≡ Some r → rules_up_to (suc k) t ≡ r ∷ rules_up_to k (merge r t)
 unfolding rules_up_to
-rules_some k t m = before_rule (first_rule t) _ m
+rules_some k t r e = rw e
 
 -- any two bounds that are large enough give the same
 rules_same : (k j : ℕ) (t : Tally) → low t ≤ k → low t ≤ j → rules_up_to k t ≡ rules_up_to j t
 rules_same zero j t p q = let e = none_at t (omega arith) in rules_none zero t e ∙ sym (rules_none j t e)
 rules_same (suc k) zero t p q = let e = none_at t (omega arith) in rules_none (suc k) t e ∙ sym (rules_none zero t e)
 rules_same (suc k) (suc j) t p q = ⊎_elim (λ e. rules_none (suc k) t e ∙ sym (rules_none (suc j) t e)) (λ m.
-    let f = falls_at t m in
-    rules_some k t m ∙ ap (λ (rs : List Rule). first_rule t ∷ rs) (rules_same k j (merge (first_rule t) t) (omega arith) (omega arith)) ∙ sym (rules_some
-    j t m))
-    (merges? (first_rule t))
+    let r = m.0 in let f = falls_at t r m.1 in
+    rules_some k t r m.1 ∙ ap (λ (rs : List Rule). r ∷ rs) (rules_same k j (merge r t) (omega arith) (omega arith)) ∙ sym (rules_some j t r m.1))
+    (applies? (first_rule t))
 
 pub rules_stop : (t : Tally) → first_rule t ≡ None → rules t ≡ []
 unfolding rules
 rules_stop t e = rules_none (low t) t e
 
-pub rules_step : (t : Tally) → Merges (first_rule t) → rules t ≡ first_rule t ∷ rules (merge (first_rule t) t)
+pub rules_step : (t : Tally) (r : Rule) → first_rule t ≡ Some r → rules t ≡ r ∷ rules (merge r t)
 unfolding rules
-rules_step t m =
-    let f = falls_at t m in
-    rules_same (low t) (suc (low t)) t (omega arith) (omega arith) ∙ rules_some (low t) t m
-    ∙ ap (λ (rs : List Rule). first_rule t ∷ rs) (rules_same (low t) _ (merge (first_rule t) t) (omega arith) (omega arith))
+rules_step t r e =
+    let f = falls_at t r e in
+    rules_same (low t) (suc (low t)) t (omega arith) (omega arith) ∙ rules_some (low t) t r e
+    ∙ ap (λ (rs : List Rule). r ∷ rs) (rules_same (low t) _ (merge r t) (omega arith) (omega arith))
 
 pub merged_stop : (t : Tally) → first_rule t ≡ None → merged t ≡ t
 unfolding merged merged_by
 merged_stop t e = ap (λ (rs : List Rule). merged_by rs t) (rules_stop t e)
 
-pub merged_step : (t : Tally) → Merges (first_rule t) → merged t ≡ merged (merge (first_rule t) t)
+pub merged_step : (t : Tally) (r : Rule) → first_rule t ≡ Some r → merged t ≡ merged (merge r t)
 unfolding merged merged_by
-merged_step t m = ap (λ (rs : List Rule). merged_by rs t) (rules_step t m)
+merged_step t r e = ap (λ (rs : List Rule). merged_by rs t) (rules_step t r e)
 
 pub letters_stop : (t : Tally) → first_rule t ≡ None → letters t ≡ []
 unfolding letters
 letters_stop t e = ap (map letter) (rules_stop t e)
 
-pub letters_step : (t : Tally) → Merges (first_rule t) → letters t ≡ letter (first_rule t) ∷ letters (merge (first_rule t) t)
+pub letters_step : (t : Tally) (r : Rule) → first_rule t ≡ Some r → letters t ≡ letter r ∷ letters (merge r t)
 unfolding letters
-letters_step t m = ap (map letter) (rules_step t m)
+letters_step t r e = ap (map letter) (rules_step t r e)
 
 -- ---- what all of them together keep and leave
 
@@ -220,16 +204,12 @@ pub record Leaves (t u : Tally) : Type 0 where
   pub keeps : Keeps t u
   pub one : low u ≤ 1
 
-tells_none : (t : Tally) → first_rule t ≡ None → low t ≤ 1
-unfolding Tells
-tells_none t e = rw e at (tells t)
-
 leaves_within : (k : ℕ) (t : Tally) → low t ≤ k → Leaves t (merged t)
 leaves_within zero t h = let e = none_at t (omega arith) in rw (merged_stop t e) (record { keeps = keeps_all t; one = omega arith })
 leaves_within (suc k) t h = ⊎_elim (λ e. rw (merged_stop t e) (record { keeps = keeps_all t; one = tells_none t e })) (λ m.
-    let f = falls_at t m in let l = leaves_within k (merge (first_rule t) t) (omega arith) in
-    rw (merged_step t m) (record { keeps = keeps_on (merge_keeps (first_rule t) t (tells t)) l.keeps; one = l.one }))
-    (merges? (first_rule t))
+    let r = m.0 in let f = falls_at t r m.1 in let l = leaves_within k (merge r t) (omega arith) in
+    rw (merged_step t r m.1) (record { keeps = keeps_on (merge_keeps r t (tells_takes t r m.1)) l.keeps; one = l.one }))
+    (applies? (first_rule t))
 
 pub merged_leaves : (t : Tally) → Leaves t (merged t)
 merged_leaves t = leaves_within (low t) t (omega arith)
@@ -237,8 +217,8 @@ merged_leaves t = leaves_within (low t) t (omega arith)
 few_within : (k : ℕ) (t : Tally) → low t ≤ k → (length (rules t) ≡ 0) ⊎ (length (rules t) < low t)
 few_within zero t h = inl (ap length (rules_stop t (none_at t (omega arith))))
 few_within (suc k) t h = ⊎_elim (λ e. inl (ap length (rules_stop t e))) (λ m.
-    let f = falls_at t m in let e = ap length (rules_step t m) in
-    inr (⊎_elim (λ z. omega arith) (λ z. omega arith) (few_within k (merge (first_rule t) t) (omega arith)))) (merges? (first_rule t))
+    let r = m.0 in let f = falls_at t r m.1 in let e = ap length (rules_step t r m.1) in
+    inr (⊎_elim (λ z. omega arith) (λ z. omega arith) (few_within k (merge r t) (omega arith)))) (applies? (first_rule t))
 
 -- the number of merges is 0, or below the number of 2s and 4s
 pub merges_few : (t : Tally) → (length (rules t) ≡ 0) ⊎ (length (rules t) < low t)
@@ -282,42 +262,32 @@ unfolding padded
 so_far_none t h = record { same = refl; done = refl; held = refl; long = refl; room = omega arith; few = h }
 
 module _ (start : Tally) (array : List ℕ) (count : ℕ) (t : Tally) (s : SoFar start array count t) where
-  so_far_step : Merges (first_rule t) → SoFar start (set array count (letter (first_rule t))) (count + 1) (merge (first_rule t) t)
-  so_far_step m =
-      let v = letter (first_rule t) in let f = falls_at t m in let k = merge_keeps (first_rule t) t (tells t) in
-      let h : count < length array = omega (arith, s.long, s.room) in
-      let taken : take (count + 1) (set array count v) ≡ take count array ++ (v ∷ []) =
-      ap (λ (n : ℕ). take n (set array count v)) (add-one count) ∙ take-suc-set array count v h in
-      record {
-        same = sym (merged_step t m) ∙ s.same;
-        done = s.done ∙ ap (λ (ls : List ℕ). take count array ++ ls) (letters_step t m)
-            ∙ sym (append_assoc (take count array) (v ∷ []) (letters (merge (first_rule t) t)))
-            ∙ ap (λ (ls : List ℕ). ls ++ letters (merge (first_rule t) t)) (sym taken);
-        held = ap (λ (ls : List ℕ). set ls count v) s.held ∙ push_padded (take count array) count v (length-take-le count array (omega arith)) (omega arith)
-            ∙ ap padded (sym taken);
-        long = length-set array count v ∙ s.long;
-        room = omega arith;
-        few = omega arith;
-      }
+  -- a turn of the loop
+  module _ (r : Rule) (e : first_rule t ≡ Some r) where
+    pub so_far_fits : count < 13
+    so_far_fits = let f = falls_at t r e in omega (arith, s.room)
 
-  -- a turn of the loop, with what its calls answered
-  pub so_far_again : (rule : Rule) (mark : ℕ) (u : Tally) → rule ≡ first_rule t → mark ≡ letter rule → (mark ≡ 0 → ⊥) → u ≡ merge rule t
-      → SoFar start (set array count mark) (count + 1) u × (low u < low t)
-  so_far_again rule mark u p q n r =
-      let m : Merges (first_rule t) = λ (e : letter (first_rule t) ≡ 0). n (q ∙ ap letter p ∙ e) in
-      rw (r, q, p) (so_far_step m, (falls_at t m).0)
-
-  pub so_far_fits : (rule : Rule) (mark : ℕ) → rule ≡ first_rule t → mark ≡ letter rule → (mark ≡ 0 → ⊥) → count < 13
-  so_far_fits rule mark p q n =
-      let f = falls_at t (λ (e : letter (first_rule t) ≡ 0). n (q ∙ ap letter p ∙ e)) in
-      omega (arith, s.room)
+    pub so_far_step : SoFar start (set array count (letter r)) (count + 1) (merge r t)
+    so_far_step =
+        let v = letter r in let f = falls_at t r e in let k = merge_keeps r t (tells_takes t r e) in
+        let h : count < length array = omega (arith, s.long, s.room) in
+        let taken : take (count + 1) (set array count v) ≡ take count array ++ (v ∷ []) =
+        ap (λ (n : ℕ). take n (set array count v)) (add-one count) ∙ take-suc-set array count v h in
+        record {
+          same = sym (merged_step t r e) ∙ s.same;
+          done = s.done ∙ ap (λ (ls : List ℕ). take count array ++ ls) (letters_step t r e) ∙ sym (append_assoc (take count array) (v ∷ []) (letters (merge r t)))
+              ∙ ap (λ (ls : List ℕ). ls ++ letters (merge r t)) (sym taken);
+          held = ap (λ (ls : List ℕ). set ls count v) s.held ∙ push_padded (take count array) count v (length-take-le count array (omega arith)) (omega arith)
+              ∙ ap padded (sym taken);
+          long = length-set array count v ∙ s.long;
+          room = omega arith;
+          few = omega arith;
+        }
 
   -- the loop is left
-  pub so_far_end : (rule : Rule) (mark : ℕ) → rule ≡ first_rule t → mark ≡ letter rule → mark ≡ 0
-      → ◌≡◌ {A = Merged} (record { tally = t; merges = record { count = count; letters = array } }) (merge_all start)
+  pub so_far_end : first_rule t ≡ None → ◌≡◌ {A = Merged} (record { tally = t; merges = record { count = count; letters = array } }) (merge_all start)
   unfolding merge_all marked
-  so_far_end rule mark p q z =
-      let e : first_rule t ≡ None = ⊎_elim (λ e. e) (λ m. absurd (m (sym (ap letter p) ∙ sym q ∙ z))) (merges? (first_rule t)) in
+  so_far_end e =
       let all : letters start ≡ take count array = s.done ∙ ap (λ (ls : List ℕ). take count array ++ ls) (letters_stop t e) ∙ append-nil (take count array) in
       let tallies : t ≡ merged start = sym (merged_stop t e) ∙ s.same in
       let counts : count ≡ length (letters start) = sym (length-take-le count array (omega (arith, s.long, s.room))) ∙ ap length (sym all) in
@@ -326,20 +296,7 @@ module _ (start : Tally) (array : List ℕ) (count : ℕ) (t : Tally) (s : SoFar
 
 -- ---- six runs laid one behind the other
 
-pub sorted_filled : (t : Tally) (a b c d e f : List ℕ) → total t ≤ 13 → a ≡ paste (replicate 13 0) 0 (replicate t.twos 2) t.twos
-    → b ≡ paste a t.twos (replicate t.threes 3) t.threes → c ≡ paste b (t.twos + t.threes) (replicate t.fours 4) t.fours
-    → d ≡ paste c (t.twos + t.threes + t.fours) (replicate t.fives 5) t.fives
-    → e ≡ paste d (t.twos + t.threes + t.fours + t.fives) (replicate t.sevens 7) t.sevens
-    → f ≡ paste e (t.twos + t.threes + t.fours + t.fives + t.sevens) (replicate t.eights 8) t.eights → f ≡ padded (sorted t)
-unfolding sorted padded
-sorted_filled t a b c d e f h p2 p3 p4 p5 p7 p8 =
-    let l2 : List ℕ = replicate t.twos 2 in let l3 : List ℕ = l2 ++ replicate t.threes 3 in
-    let l4 : List ℕ = l3 ++ replicate t.fours 4 in let l5 : List ℕ = l4 ++ replicate t.fives 5 in
-    let l7 : List ℕ = l5 ++ replicate t.sevens 7 in
-    let f2 = filled_padded [] (replicate 13 0) a 0 t.twos 2 refl (omega arith) refl p2 in
-    let f3 = filled_padded l2 a b t.twos t.threes 3 (length-replicate t.twos 2) (omega arith) f2.0 p3 in
-    let f4 = filled_padded l3 b c (t.twos + t.threes) t.fours 4 f3.1 (omega arith) f3.0 p4 in
-    let f5 = filled_padded l4 c d (t.twos + t.threes + t.fours) t.fives 5 f4.1 (omega arith) f4.0 p5 in
-    let f7 = filled_padded l5 d e (t.twos + t.threes + t.fours + t.fives) t.sevens 7 f5.1 (omega arith) f5.0 p7 in
-    let f8 = filled_padded l7 e f (t.twos + t.threes + t.fours + t.fives + t.sevens) t.eights 8 f7.1 (omega arith) f7.0 p8 in
-    f8.0 ∙ ap padded {x = l7 ++ replicate t.eights 8} {y = sorted t} (simp append_assoc)
+pub sorted_runs : (t : Tally)
+    → [] ++ replicate t.twos 2 ++ replicate t.threes 3 ++ replicate t.fours 4 ++ replicate t.fives 5 ++ replicate t.sevens 7 ++ replicate t.eights 8 ≡ sorted t
+unfolding sorted
+sorted_runs t = simp append_assoc

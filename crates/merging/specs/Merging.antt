@@ -1,11 +1,11 @@
 -- Merging: the first of the four rules that applies, until none does. Assumes nothing.
-use Rattle.std.specs.Prelude.{ℕ, zero, suc, ◌+◌, ◌-◌, Bool, true, cond, ◌&&◌, List, [], ◌∷◌, ◌++◌, map, leb, length, replicate}
+use Rattle.std.specs.Prelude.{ℕ, zero, suc, ◌+◌, ◌-◌, Bool, cond, ◌&&◌, List, [], ◌∷◌, ◌++◌, map, leb, length, replicate, Option, Some, None}
 use Rattle.radices.specs.Lists.{count_of, padded}
 use Rattle.merging.specs.declared.inner.merging.Tally.{Tally}
 use Rattle.merging.specs.declared.Merges.{Merges}
 use Rattle.merging.specs.declared.inner.merging.Merged.{Merged}
 use Rattle.merging.specs.declared.inner.merging.Rule.{Rule}
-use Rattle.merging.specs.declared.inner.merging.Rule.TheVariants.{A, B, C, D, None}
+use Rattle.merging.specs.declared.inner.merging.Rule.TheVariants.{A, B, C, D}
 
 -- how many of each radix a list holds
 unfoldable pub tally : List ℕ → Tally
@@ -25,7 +25,6 @@ applies A t = leb 1 t.fours && leb 1 t.twos
 applies B t = leb 3 t.twos
 applies C t = leb 2 t.fours
 applies D t = leb 2 t.twos
-applies None t = true
 
 -- what a rule makes of them
 unfoldable pub merge : Rule → Tally → Tally
@@ -33,23 +32,20 @@ merge A t = record { twos = t.twos - 1; threes = t.threes; fours = t.fours - 1; 
 merge B t = record { twos = t.twos - 3; threes = t.threes; fours = t.fours; fives = t.fives; sevens = t.sevens; eights = t.eights + 1 }
 merge C t = record { twos = t.twos + 1; threes = t.threes; fours = t.fours - 2; fives = t.fives; sevens = t.sevens; eights = t.eights + 1 }
 merge D t = record { twos = t.twos - 2; threes = t.threes; fours = t.fours + 1; fives = t.fives; sevens = t.sevens; eights = t.eights }
-merge None t = t
 
 -- the first rule that applies
-unfoldable pub first_rule : Tally → Rule
-first_rule t = cond (applies A t) A (cond (applies B t) B (cond (applies C t) C (cond (applies D t) D None)))
+unfoldable pub first_rule : Tally → Option Rule
+first_rule t = cond (applies A t) (Some A) (cond (applies B t) (Some B) (cond (applies C t) (Some C) (cond (applies D t) (Some D) None)))
 
-abbrev pub before : Rule → List Rule → List Rule
-before A rest = A ∷ rest
-before B rest = B ∷ rest
-before C rest = C ∷ rest
-before D rest = D ∷ rest
+-- a rule before those that follow it, and nothing where there is none
+abbrev pub before : Option Rule → (Rule → List Rule) → List Rule
+before (Some r) rest = r ∷ rest r
 before None rest = []
 
 -- the rules that apply in turn, at most k of them
 unfoldable pub rules_up_to : ℕ → Tally → List Rule
 rules_up_to zero t = []
-rules_up_to (suc k) t = before (first_rule t) (rules_up_to k (merge (first_rule t) t))
+rules_up_to (suc k) t = before (first_rule t) (λ r. rules_up_to k (merge r t))
 
 -- all of them: each takes at least one from the 2s and 4s together
 unfoldable pub rules : Tally → List Rule
@@ -69,7 +65,6 @@ letter A = 65
 letter B = 66
 letter C = 67
 letter D = 68
-letter None = 0
 
 -- the letters of the rules that apply in turn
 unfoldable pub letters : Tally → List ℕ

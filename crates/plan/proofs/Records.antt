@@ -1,6 +1,7 @@
 -- Laws of plan records: what an accepted list is, that the record depends on n alone, and which records planning gives. Assumes nothing.
-use Rattle.sequences.proofs.Basics.{◌≡◌, refl, sym, ap, ◌∙◌, ℕ, zero, suc, ◌+◌, ◌-◌, ◌*◌, ◌/◌, ◌%◌, ◌<◌, ◌≤◌, one-mul, add-one, arith, true, false}
-use Rattle.sequences.proofs.Basics.{false≢true, List, [], ◌∷◌, eqb, length, get_or, take, drop, drop_of_length-le, replicate, length-take, take_at, drop-cons}
+use lib.Pointwise.{pointwise}
+use Rattle.sequences.proofs.Basics.{◌≡◌, refl, sym, ap, ◌∙◌, ℕ, zero, suc, ◌+◌, ◌-◌, ◌*◌, ◌/◌, ◌%◌, ◌<◌, ◌≤◌, one-mul, arith, true, false}
+use Rattle.sequences.proofs.Basics.{Bool, ◌&&◌, false≢true, List, [], ◌∷◌, eqb, length, take, replicate, length-take, take_at}
 use Rattle.sequences.proofs.Basics.{eqb-true, eq-eqb, ne_eqb, lt-ltb, le-leb, lt-leb, leb-true}
 use Rattle.refusal.proofs.Rows.{deciding, accepted}
 use Rattle.refusal.specs.Refusal.{Accepted}
@@ -237,20 +238,13 @@ passes_plannable p e =
 pub plannable_passes : (p : Record) → Plannable p → is_planned p ≡ true
 plannable_passes p (xs, e, f) = rw f at (planned_passes xs (accepted_good xs e))
 
--- ---- comparing two arrays entry by entry
-
-module _ (a b : List ℕ) (i : ℕ) (e : eq_list a b ≡ eq_list (drop i a) (drop i b)) where
-  pub same_next : i < length a → i < length b → get_or a i 0 ≡ get_or b i 0 → eq_list a b ≡ eq_list (drop (i + 1) a) (drop (i + 1) b)
-  unfolding eq_list
-  same_next p q f = e ∙ rw (drop-cons a i 0 p, drop-cons b i 0 q, add-one) (simp (eq-eqb (get_or a i 0) (get_or b i 0) f))
-
-  pub same_not : i < length a → i < length b → (get_or a i 0 ≡ get_or b i 0 → ⊥) → false ≡ eq_list a b
-  unfolding eq_list
-  same_not p q f = sym (e ∙ rw (drop-cons a i 0 p, drop-cons b i 0 q) (simp (ne_eqb (get_or a i 0) (get_or b i 0) f)))
-
-  pub same_end : length a ≤ i → length b ≤ i → true ≡ eq_list a b
-  unfolding eq_list
-  same_end p q = sym (e ∙ rw (drop_of_length-le a p, drop_of_length-le b q))
+-- two arrays compared, as std has it
+pub same_arrays : (xs ys : List ℕ) → pointwise eqb xs ys ≡ eq_list xs ys
+unfolding eq_list
+same_arrays [] [] = refl
+same_arrays [] (y ∷ ys) = refl
+same_arrays (x ∷ xs) [] = refl
+same_arrays (x ∷ xs) (y ∷ ys) = ap (λ (t : Bool). eqb x y && t) (same_arrays xs ys)
 
 -- the product that `running_product` finds is not half, or it is
 pub made_not : (xs : List ℕ) (half : ℕ) → first_bad xs ≡ length xs → half ≤ 4096 → first_over 1 xs < length xs → false ≡ eqb (product xs) half

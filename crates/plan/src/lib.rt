@@ -10,7 +10,7 @@ ghost use Rattle.radices.specs.Lists.{product};
 
 use halving::inner::halving::half_list;
 use merging::Merges;
-use merging::inner::merging::{ascending, counts_of, merge_all, size};
+use merging::inner::merging::Tally;
 use radices::inner::lists::{first_bad, running_product};
 use refusal::Refusal;
 
@@ -38,16 +38,13 @@ pub fn plan(list: &[u8]) -> Result<Planned, Refusal>
     if list.is_empty() {
         return Err(Refusal::Empty);
     }
-    let bad = first_bad(list);
-    if bad < list.len() {
+    if let Some(bad) = first_bad(list) {
         return Err(Refusal::NoRadix(bad));
     }
-    let run = running_product(list);
-    let over = run.at;
-    if over < list.len() {
-        return Err(Refusal::TooLarge(over));
-    }
-    let n = run.product;
+    let n = match running_product(list) {
+        Ok(n) => n,
+        Err(over) => return Err(Refusal::TooLarge(over)),
+    };
     if n % 2 == 1 {
         return Err(Refusal::Odd);
     }
@@ -69,15 +66,15 @@ fn accepted(list: &[u8], n: usize) -> Planned
     let half = half_list(list);
     let entries = half.entries;
     let count = half.count;
-    let merged = merge_all(counts_of(&entries[..count]));
+    let merged = Tally::of(&entries[..count]).merge_all();
     let tally = merged.tally;
     let merges = merged.merges;
     Planned {
         plan: Record {
             n,
             half: n / 2,
-            count: size(tally),
-            radices: ascending(tally),
+            count: tally.size(),
+            radices: tally.ascending(),
         },
         merges,
     }

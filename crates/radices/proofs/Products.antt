@@ -4,10 +4,8 @@ use Rattle.sequences.proofs.Basics.{mul-le-mul_left, mul-pos, pow-zero, pow-suc,
 use Rattle.sequences.proofs.Basics.{not, ◌||◌, false≢true, ◌⊎◌, inl, inr, dite, List, [], ◌∷◌, ◌++◌, eqb, ltb, length, replicate, pow-add, pow-lt, eqb-true}
 use Rattle.sequences.proofs.Basics.{le-ltb, ltb-false}
 use Rattle.sequences.proofs.First.{first_most}
-use Rattle.radices.specs.Lists.{is_radix, product, first_bad, first_over, largest, running_product}
+use Rattle.radices.specs.Lists.{is_radix, product, first_bad, first_over, largest}
 use Rattle.sequences.specs.Lists.{first_that}
-use Rattle.radices.proofs.Lists.{running_all, running_place}
-use Rattle.radices.specs.declared.inner.lists.Running.{Running}
 
 -- ---- lists of radices
 
@@ -152,10 +150,3 @@ over_none_at xs h = le_antisymm (over_most 1 xs) h
 pub over_large : (xs : List ℕ) → Radical xs → first_over 1 xs < length xs → largest < product xs
 over_large xs r h = dite (dec_le (product xs) largest) (λ (p : product xs ≤ largest). absurd (omega (arith, small_over_none 1 xs r (rw one-mul p))))
     (λ (n : product xs ≤ largest → ⊥). lt_of_not-le n)
-
--- what `running_product` answers, at its end or before
-pub running_early : (xs : List ℕ) (r : Running) → r ≡ running_product xs → r.at ≡ first_over 1 xs
-running_early xs r e = ap (λ (x : Running). x.at) e ∙ running_place xs
-
-pub running_through : (xs : List ℕ) (r : Running) → r ≡ running_product xs → length xs ≤ r.at → r.product ≡ product xs
-running_through xs r e h = ap (λ (x : Running). x.product) (e ∙ running_all xs (over_none_at xs (omega (arith, running_early xs r e))))

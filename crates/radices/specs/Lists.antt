@@ -1,8 +1,7 @@
 -- Lists of radices: which bytes are radices, products, first places, counts. Assumes nothing.
-use Rattle.std.specs.Prelude.{ℕ, suc, ◌-◌, ◌*◌, Bool, true, false, cond, not, ◌&&◌, ◌||◌, List, [], ◌∷◌, ◌++◌, eqb, ltb, length, take, replicate}
+use Rattle.std.specs.Prelude.{ℕ, suc, ◌-◌, ◌*◌, Bool, true, false, cond, not, ◌&&◌, ◌||◌, List, [], ◌∷◌, ◌++◌, eqb, ltb, length, replicate}
 use Rattle.sequences.specs.Lists.{first_that}
 use Rattle.radices.specs.declared.Radices.{Radices}
-use Rattle.radices.specs.declared.inner.lists.Running.{Running}
 
 -- a byte that is a radix
 unfoldable pub is_radix : ℕ → Bool
@@ -49,7 +48,3 @@ eq_list (x ∷ xs) (y ∷ ys) = eqb x y && eq_list xs ys
 -- a list with its count, in an array
 unfoldable pub listed : List ℕ → Radices
 listed xs = record { count = length xs; entries = padded xs }
-
--- how far the running product stays within the largest length, and the product up to there
-unfoldable pub running_product : List ℕ → Running
-running_product xs = record { at = first_over 1 xs; product = product (take (first_over 1 xs) xs) }

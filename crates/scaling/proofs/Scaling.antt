@@ -1,8 +1,8 @@
 -- Laws of scaling: the smallest power of two that reaches the target, the radices that it adds, and how many fit. Assumes nothing.
 use Rattle.sequences.proofs.Basics.{◌≡◌, refl, sym, ap, ◌∙◌, ℕ, zero, suc, ◌+◌, ◌-◌, ◌*◌, ◌/◌, ◌%◌, ◌^◌, ◌<◌, ◌≤◌, one-mul, mul-one, mul_assoc, mul-le-mul}
-use Rattle.sequences.proofs.Basics.{mul-le-mul_left, pow-suc, pow-succ', mul_comm, lt_of_not-le, add-one, arith, dec_le, Bool, true, false, cond}
+use Rattle.sequences.proofs.Basics.{mul-le-mul_left, pow-succ', mul_comm, lt_of_not-le, add-one, arith, dec_le, Bool, true, false, cond}
 use Rattle.sequences.proofs.Basics.{dite, List, []}
-use Rattle.sequences.proofs.Basics.{◌∷◌, ◌++◌, append-nil, append_assoc, eqb, ltb, length, set, paste, replicate, length-append, length-replicate, pow-add}
+use Rattle.sequences.proofs.Basics.{◌∷◌, ◌++◌, append-nil, eqb, ltb, length, replicate, length-append, length-replicate, pow-add}
 use Rattle.sequences.proofs.Basics.{pow-lt}
 use Rattle.sequences.proofs.Basics.{pow_mono, eq-eqb, ne_eqb, le-leb, lt-leb, lt-ltb, le-ltb}
 use Rattle.refusal.specs.Refusal.{Row, ◌⇒◌, verdict}
@@ -13,13 +13,12 @@ use Rattle.refusal.specs.Refusal.{Accepted, Refused}
 use Rattle.refusal.proofs.Rows.{accepted, refused_on, accepted_on}
 use Rattle.radices.specs.declared.Radices.{Radices}
 use Rattle.scaling.specs.declared.Scaled.{Scaled}
-use Rattle.radices.specs.declared.inner.lists.Running.{Running}
-use Rattle.radices.specs.Lists.{product, largest, is_radix, first_bad, first_over, padded, listed, running_product}
+use Rattle.radices.specs.Lists.{product, largest, is_radix, first_bad, first_over, listed}
 use Rattle.scaling.specs.Parts.{Scalable}
 use Rattle.std.specs.Prelude.{Ok, Err}
 use Rattle.refusal.specs.Refusal.{granted}
 use Rattle.scaling.specs.Scaling.{gain_from, gain, over, gained, list_rows, scale_verdict, accepted_scaling, scaled}
-use Rattle.radices.proofs.Lists.{product_append, listed_is, push_padded, running_all, paste_empty, filled_padded}
+use Rattle.radices.proofs.Lists.{product_append}
 use Rattle.radices.proofs.Products.{Radical, radical_append, radical_replicate, radical, product_replicate, product_positive, over_none_small, pow_eight}
 use Rattle.radices.proofs.Products.{entries_few, bad_none, over_none_at}
 
@@ -163,27 +162,8 @@ module _ (xs : List ℕ) (g : ℕ) (few : length (xs ++ gained g) ≤ 13) where
   pub grown_room : (g % 3 ≡ 0 → ⊥) → length xs + g / 3 < 13
   grown_room n = omega (arith, few, length-append xs (gained g), length_gained g, over_some (g % 3) n)
 
--- xs laid into an array, then the 8s
-module _ (xs : List ℕ) (g : ℕ) (few : length (xs ++ gained g) ≤ 13) {to es : List ℕ} (c : to ≡ paste (replicate 13 0) 0 xs (length xs))
-    (f : es ≡ paste to (length xs) (replicate (g / 3) 8) (g / 3)) where
-  padding : (es ≡ padded (xs ++ replicate (g / 3) 8)) × (length (xs ++ replicate (g / 3) 8) ≡ length xs + g / 3)
-  padding = let front = grown_front xs g few in filled_padded xs to es (length xs) (g / 3) 8 refl front (c ∙ paste_empty xs (omega arith)) f
-
-  pub grown_exact : g % 3 ≡ 0 → ◌≡◌ {A = Radices} (record { count = length xs + g / 3; entries = es }) (listed (xs ++ gained g))
-  grown_exact z = rw (gained_none g z) (listed_is (xs ++ replicate (g / 3) 8) _ _ (sym padding.1) padding.0)
-
-  pub grown_pushed : (v : ℕ) {r : Radices} → (g % 3 ≡ 0 → ⊥) → gained g ≡ replicate (g / 3) 8 ++ (v ∷ [])
-      → (r.count ≡ length xs + g / 3 + 1) × (r.entries ≡ set es (length xs + g / 3) v) → r ≡ listed (xs ++ gained g)
-  grown_pushed v {r} n h (p, q) =
-      let front = xs ++ replicate (g / 3) 8 in
-      rw (h, ← append_assoc) (listed_is (front ++ (v ∷ [])) r.count r.entries (p ∙ simp (length-append, length-replicate))
-      (q ∙ rw padding.0 (push_padded front (length xs + g / 3) v padding.1 (grown_room xs g few n))))
-
 pub power_small : (i : ℕ) → i ≤ 13 → 2 ^ i ≤ 8192
 power_small i h = pow_mono {j = 13} h
-
-pub power_next : (i : ℕ) → 2 ^ i * 2 ≡ 2 ^ (i + 1)
-power_next i = sym (pow-suc 2 i) ∙ ap (λ (n : ℕ). 2 ^ n) (sym (add-one i))
 
 -- ---- an accepted list
 
@@ -202,16 +182,13 @@ check_base from xs e =
       small = rw one-mul at (over_none_small 1 xs (omega arith) (over_none_at xs over));
     }
 
--- r is its running product
-module _ {xs : List ℕ} (b : Base xs) {r : Running} (e : r ≡ running_product xs) where
-  base_product : r.product ≡ product xs
-  base_product = ap (λ (x : Running). x.product) (e ∙ running_all xs b.whole)
+-- n is its product
+module _ {xs : List ℕ} (b : Base xs) {n : ℕ} (e : n ≡ product xs) where
+  base_bounds : (0 < n) × (n ≤ 8192)
+  base_bounds = rw e (product_positive xs b.radices, b.small)
 
-  base_bounds : (0 < r.product) × (r.product ≤ 8192)
-  base_bounds = rw base_product (product_positive xs b.radices, b.small)
-
-  base_fits : (g : ℕ) → 2 ^ g * r.product ≤ largest → length (xs ++ gained g) ≤ 13
-  base_fits g h = scaled_few xs g b.radices (rw base_product at h)
+  base_fits : (g : ℕ) → 2 ^ g * n ≤ largest → length (xs ++ gained g) ≤ 13
+  base_fits g h = scaled_few xs g b.radices (rw e at h)
 
 -- a power of two of at most 13 and a product within the largest length
 power_fits : (g p n : ℕ) → p ≡ 2 ^ g → g ≤ 13 → n ≤ 8192 → p * n < 2 ^ 64
@@ -239,33 +216,33 @@ module _ (target : ℕ) (ins outs : List ℕ) where
     scale_out why e = by_verdict (Refused why)
         (accepted_on (list_rows 0 ins) (list_rows (length ins) outs ++ last) a ∙ refused_on (list_rows (length ins) outs) last why e)
 
--- with i and o the running products of both lists, g the gain and p its power
-module _ {target : ℕ} {ins outs : List ℕ} (h : Scalable target ins outs) {i : Running} (ei : i ≡ running_product ins) where
+-- with i and o the products of both lists, g the gain and p its power
+module _ {target : ℕ} {ins outs : List ℕ} (h : Scalable target ins outs) {i : ℕ} (ei : i ≡ product ins) where
   in-base : Base ins
   in-base = check_base 0 ins h.ins
 
-  pub in_bounds : (0 < i.product) × (i.product ≤ 8192)
+  pub in_bounds : (0 < i) × (i ≤ 8192)
   in_bounds = base_bounds in-base ei
 
-  module _ {g : ℕ} (eg : g ≡ gain target i.product) where
+  module _ {g : ℕ} (eg : g ≡ gain target i) where
     pub in_few : g ≤ 13
-    in_few = rw eg (gain_few target i.product h.low in_bounds.0 in_bounds.1)
+    in_few = rw eg (gain_few target i h.low in_bounds.0 in_bounds.1)
 
     pub in_fits : length (ins ++ gained g) ≤ 13
-    in_fits = base_fits in-base ei g (rw eg (gain_small target i.product h.low in_bounds.1))
+    in_fits = base_fits in-base ei g (rw eg (gain_small target i h.low in_bounds.1))
 
     module _ {p : ℕ} (ep : p ≡ 2 ^ g) where
-      pub in_power : p * i.product < 2 ^ 64
+      pub in_power : p * i < 2 ^ 64
       in_power = power_fits g p _ ep in_few in_bounds.1
 
-      module _ {o : Running} (eo : o ≡ running_product outs) where
+      module _ {o : ℕ} (eo : o ≡ product outs) where
         out_base : Base outs
         out_base = check_base (length ins) outs h.outs
 
-        pub out_power : p * o.product < 2 ^ 64
+        pub out_power : p * o < 2 ^ 64
         out_power = power_fits g p _ ep in_few (base_bounds out_base eo).1
 
-        pub out_fits : p * o.product ≤ largest → length (outs ++ gained g) ≤ 13
+        pub out_fits : p * o ≤ largest → length (outs ++ gained g) ≤ 13
         out_fits l = base_fits out_base eo g (rw ep at l)
 
         on_last : scale_verdict target ins outs ≡ verdict (last target ins outs)
@@ -274,17 +251,17 @@ module _ {target : ℕ} {ins outs : List ℕ} (h : Scalable target ins outs) {i 
             ∙ accepted_on (list_rows (length ins) outs) (last target ins outs) h.outs
 
         same_gain : g ≡ gain target (product ins)
-        same_gain = eg ∙ ap (gain target) (base_product in-base ei)
+        same_gain = eg ∙ ap (gain target) ei
 
-        scaled_out : p * o.product ≡ 2 ^ gain target (product ins) * product outs
-        scaled_out = rw (ep, same_gain, base_product out_base eo)
+        scaled_out : p * o ≡ 2 ^ gain target (product ins) * product outs
+        scaled_out = rw (ep, same_gain, eo)
 
-        pub scale_large : largest < p * o.product → Err (TooLarge (length ins + length outs)) ≡ scaled target ins outs
+        pub scale_large : largest < p * o → Err (TooLarge (length ins + length outs)) ≡ scaled target ins outs
         scale_large l = by_verdict target ins outs (Refused (TooLarge (length ins + length outs)))
             (on_last ∙ simp (lt-ltb largest _ (rw scaled_out at l)))
 
-        pub scale_accepted : p * o.product ≤ largest → {x y : Radices} → x ≡ listed (ins ++ gained g) → y ≡ listed (outs ++ gained g)
-            → Ok (record { p = p; in_product = p * i.product; out_product = p * o.product; in_list = x; out_list = y }) ≡ scaled target ins outs
+        pub scale_accepted : p * o ≤ largest → {x y : Radices} → x ≡ listed (ins ++ gained g) → y ≡ listed (outs ++ gained g)
+            → Ok (record { p = p; in_product = p * i; out_product = p * o; in_list = x; out_list = y }) ≡ scaled target ins outs
         unfolding accepted_scaling
-        scale_accepted l u v = rw (u, v, scaled_out, ep, base_product in-base ei, same_gain)
+        scale_accepted l u v = rw (u, v, scaled_out, ep, ei, same_gain)
             (by_verdict target ins outs Accepted (on_last ∙ simp (le-ltb largest _ (rw scaled_out at l))))

@@ -5,19 +5,14 @@ ghost use Rattle.counts.specs.Counts.{stride, twiddle_count, twiddle_start, end_
 
 use crate::Buffer;
 use plan::Record;
+use radices::inner::lists::product;
 
 // The product of the radices before stage j.
 pub fn stride(plan: Record, j: usize) -> usize
     requires { (is_planned plan ≡ true) × (j ≤ plan.count) }
     ensures { result ≡ stride plan.radices j }
 {
-    let mut s: usize = 1;
-    let mut i = 0;
-    while i < j {
-        s *= plan.radices[i] as usize;
-        i += 1;
-    }
-    s
+    product(&plan.radices[..j])
 }
 
 // How many twiddles stage j has.
@@ -38,10 +33,8 @@ pub fn twiddle_start(plan: Record, j: usize) -> usize
     ensures { result ≡ twiddle_start plan.half plan.radices j }
 {
     let mut sum: usize = 0;
-    let mut i = 0;
-    while i < j {
+    for i in 0..j {
         sum += twiddle_count(plan, i);
-        i += 1;
     }
     sum
 }

@@ -1,25 +1,11 @@
 // Which records planning gives.
 ghost use Rattle.std.specs.Prelude.{◌≡◌, ◌≤◌, eqb, length};
-ghost use Rattle.radices.specs.Lists.{product, first_bad, eq_list};
+ghost use Rattle.radices.specs.Lists.{product, first_bad};
 ghost use Rattle.plan.specs.Record.{in_order, is_planned};
 
 use crate::Record;
-use merging::inner::merging::{ascending, counts_of, size};
+use merging::inner::merging::Tally;
 use radices::inner::lists::running_product;
-
-// Whether two arrays hold the same.
-fn same(a: [u8; 13], b: [u8; 13]) -> bool
-    ensures { result ≡ eq_list a b }
-{
-    let mut i = 0;
-    while i < 13 {
-        if a[i] != b[i] {
-            return false;
-        }
-        i += 1;
-    }
-    true
-}
 
 // Whether the first entries are sorted and merged radices and the others 0.
 fn in_order(count: usize, radices: [u8; 13]) -> bool
@@ -28,14 +14,14 @@ fn in_order(count: usize, radices: [u8; 13]) -> bool
     if count > 13 {
         return false;
     }
-    let tally = counts_of(&radices[..count]);
-    if size(tally) != count {
+    let tally = Tally::of(&radices[..count]);
+    if tally.size() != count {
         return false;
     }
     if tally.twos + tally.fours > 1 {
         return false;
     }
-    same(radices, ascending(tally))
+    radices == tally.ascending()
 }
 
 // Whether the product of a list of radices is half.
@@ -43,11 +29,10 @@ fn makes(list: &[u8], half: usize) -> bool
     requires { (first_bad list.now ≡ length list.now) × (half ≤ 4096) }
     ensures { result ≡ eqb (product list.now) half }
 {
-    let run = running_product(list);
-    if run.at < list.len() {
-        return false;
+    match running_product(list) {
+        Ok(product) => product == half,
+        Err(_) => false,
     }
-    run.product == half
 }
 
 // Whether planning gives the record.

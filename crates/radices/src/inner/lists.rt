@@ -1,120 +1,119 @@
-// Lists of radices: the first byte that is no radix, the running product, the first of a value, counts, copies.
-ghost use Rattle.std.specs.Prelude.{◌≡◌, ◌+◌, ◌≤◌, length, replicate};
-ghost use Rattle.std.proofs.Math.Seq.{paste};
-ghost use Rattle.radices.specs.Lists.{is_radix, first_bad, index_of, count_of, running_product};
+// Lists of radices: the first byte that is no radix, the product, the first of a value, counts, and lists that are built.
+ghost use Rattle.std.specs.Prelude.{◌≡◌, ◌+◌, ◌<◌, ◌≤◌, ◌∷◌, ◌++◌, ℕ, List, [], length, replicate, MatchResult};
+ghost use Rattle.sequences.specs.Found.{Found};
+ghost use Rattle.radices.specs.Lists.{is_radix, product, first_bad, first_over, index_of, count_of, listed};
+
+use crate::Radices;
 
 // Whether a byte is a radix.
+#[tactic(auto, unfolding(crate::specs::Lists::is_radix))]
 fn is_radix(b: u8) -> bool
     ensures { result ≡ is_radix b }
 {
-    match b {
-        2 => true,
-        3 => true,
-        4 => true,
-        5 => true,
-        7 => true,
-        8 => true,
-        _ => false,
-    }
+    matches!(b, 2 | 3 | 4 | 5 | 7 | 8)
 }
 
-// The index of the first byte that is no radix, or the length.
-pub fn first_bad(list: &[u8]) -> usize
-    ensures { result ≡ first_bad list.now }
+// The index of the first byte that is no radix.
+pub fn first_bad(list: &[u8]) -> Option<usize>
+    ensures { Found (length list.now) (first_bad list.now) result }
 {
-    let mut i = 0;
-    let place = loop {
-        if i >= list.len() {
-            break list.len();
-        }
-        if !is_radix(list[i]) {
-            break i;
-        }
-        i += 1;
-    };
-    place
+    list.iter().position(|&b| !is_radix(b))
 }
 
-// The index of the first v, or the length.
-pub fn index_of(list: &[u8], v: u8) -> usize
-    ensures { result ≡ index_of v list.now }
+// The index of the first v.
+pub fn index_of(list: &[u8], v: u8) -> Option<usize>
+    ensures { Found (length list.now) (index_of v list.now) result }
 {
-    let mut i = 0;
-    let place = loop {
-        if i >= list.len() {
-            break list.len();
-        }
-        if list[i] == v {
-            break i;
-        }
-        i += 1;
-    };
-    place
+    list.iter().position(|&b| b == v)
 }
 
-// How far the running product stays within the largest length, and the product up to there.
-#[derive(Clone, Copy)]
-pub struct Running {
-    pub at: usize,
-    pub product: usize,
-}
-
-// The first index where the running product is above the largest length, or the length.
-pub fn running_product(list: &[u8]) -> Running
-    ensures { result ≡ running_product list.now }
+// The product of a list, or the first index where the running product is above the largest length.
+pub fn running_product(list: &[u8]) -> Result<usize, usize>
+    ensures { MatchResult result
+        (λ n. (length list.now ≤ first_over 1 list.now) × (n ≡ product list.now))
+        (λ at. (at ≡ first_over 1 list.now) × (at < length list.now)) }
 {
     let mut product: usize = 1;
-    let mut i = 0;
-    while i < list.len() {
-        let next = product * list[i] as usize;
-        if next > 8192 {
-            return Running { at: i, product };
+    for (i, &b) in list.iter().enumerate() {
+        product *= usize::from(b);
+        if product > 8192 {
+            return Err(i);
         }
-        product = next;
-        i += 1;
     }
-    Running { at: i, product }
+    Ok(product)
+}
+
+// The product of a list whose running product stays within the largest length.
+pub fn product(list: &[u8]) -> usize
+    requires { length list.now ≤ first_over 1 list.now }
+    ensures { result ≡ product list.now }
+{
+    let mut all: usize = 1;
+    for &b in list {
+        all *= usize::from(b);
+    }
+    all
 }
 
 // How many bytes are v.
 pub fn count_of(list: &[u8], v: u8) -> usize
     ensures { result ≡ count_of v list.now }
 {
-    let mut n: usize = 0;
-    let mut i = 0;
-    while i < list.len() {
-        if list[i] == v {
-            n += 1;
+    list.iter().filter(|&&b| b == v).count()
+}
+
+impl Radices {
+    // No entries.
+    pub fn new() -> Radices
+        ensures count { result.count ≡ 0 }
+        ensures list { result ≡ listed [] }
+    {
+        Radices {
+            count: 0,
+            entries: [0; 13],
         }
-        i += 1;
     }
-    n
-}
 
-// The entries of a list from one place of an array on.
-pub fn copied(to: [u8; 13], at: usize, list: &[u8]) -> [u8; 13]
-    requires { at + length list.now ≤ 13 }
-    ensures { result ≡ paste to at list.now (length list.now) }
-{
-    let mut out = to;
-    let mut i = 0;
-    while i < list.len() {
-        out[at + i] = list[i];
-        i += 1;
+    // The entries of a list.
+    pub fn of(list: &[u8]) -> Radices
+        requires { length list.now ≤ 13 }
+        ensures count { result.count ≡ length list.now }
+        ensures list { result ≡ listed list.now }
+    {
+        let mut all = Radices::new();
+        all.extend_from_slice(list);
+        all
     }
-    out
-}
 
-// The same entry v, k times, from one place of an array on.
-pub fn filled(to: [u8; 13], at: usize, k: usize, v: u8) -> [u8; 13]
-    requires { at + k ≤ 13 }
-    ensures { result ≡ paste to at (replicate k v) k }
-{
-    let mut out = to;
-    let mut i = 0;
-    while i < k {
-        out[at + i] = v;
-        i += 1;
+    // One more entry behind the others.
+    pub fn push(&mut self, radix: u8)
+        requires { self.old.count < 13 }
+        ensures count { self.new.count ≡ self.old.count + 1 }
+        ensures list { (xs : List ℕ) → self.old ≡ listed xs → self.new ≡ listed (xs ++ radix ∷ []) }
+    {
+        self.entries[self.count] = radix;
+        self.count += 1;
     }
-    out
+
+    // The same entry, a number of times, behind the others.
+    pub fn push_times(&mut self, radix: u8, times: usize)
+        requires { self.old.count + times ≤ 13 }
+        ensures count { self.new.count ≡ self.old.count + times }
+        ensures list { (xs : List ℕ) → self.old ≡ listed xs → self.new ≡ listed (xs ++ replicate times radix) }
+    {
+        let end = self.count + times;
+        self.entries[self.count..end].fill(radix);
+        self.count = end;
+    }
+
+    // The entries of a list behind the others.
+    pub fn extend_from_slice(&mut self, list: &[u8])
+        requires { self.old.count + length list.now ≤ 13 }
+        ensures count { self.new.count ≡ self.old.count + length list.now }
+        ensures list { (xs : List ℕ) → self.old ≡ listed xs → self.new ≡ listed (xs ++ list.now) }
+    {
+        let end = self.count + list.len();
+        self.entries[self.count..end].copy_from_slice(list);
+        self.count = end;
+    }
 }

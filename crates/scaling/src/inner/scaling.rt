@@ -1,5 +1,5 @@
 // Scaling of two base lists to a target.
-ghost use Rattle.std.specs.Prelude.{◌≡◌, ◌+◌, ◌*◌, ◌^◌, ◌≤◌, ◌<◌, length, set, ◌++◌};
+ghost use Rattle.std.specs.Prelude.{◌≡◌, ◌+◌, ◌*◌, ◌^◌, ◌≤◌, ◌<◌, length, ◌++◌};
 ghost use Rattle.radices.specs.Lists.{listed};
 ghost use Rattle.scaling.specs.Parts.{Scalable};
 ghost use Rattle.scaling.specs.Scaling.{gain, gained, list_rows, scaled};
@@ -7,7 +7,7 @@ ghost use Rattle.refusal.specs.Refusal.{verdict};
 
 use crate::Scaled;
 use radices::Radices;
-use radices::inner::lists::{copied, filled, first_bad, running_product};
+use radices::inner::lists::{first_bad, product, running_product};
 use refusal::{Refusal, Verdict};
 
 // The smallest g with 2 ^ g times the base at least the target.
@@ -29,26 +29,7 @@ fn power(g: usize) -> usize
     requires { g ≤ 13 }
     ensures { result ≡ 2 ^ g }
 {
-    let mut p: usize = 1;
-    let mut i = 0;
-    while i < g {
-        p *= 2;
-        i += 1;
-    }
-    p
-}
-
-// An array with one more entry.
-fn pushed(to: [u8; 13], at: usize, v: u8) -> Radices
-    requires { at < 13 }
-    ensures { (result.count ≡ at + 1) × (result.entries ≡ set to at v) }
-{
-    let mut entries = to;
-    entries[at] = v;
-    Radices {
-        count: at + 1,
-        entries,
-    }
+    1 << g
 }
 
 // A base list, then an 8 for each three of g, then a 2 or 4 for one or two over.
@@ -56,21 +37,14 @@ pub fn grown(list: &[u8], g: usize) -> Radices
     requires { length (list.now ++ gained g) ≤ 13 }
     ensures { result ≡ listed (list.now ++ gained g) }
 {
-    let n = list.len();
-    let eights = g / 3;
-    let over = g % 3;
-    let entries = filled(copied([0u8; 13], 0, list), n, eights, 8);
-    if over == 0 {
-        return Radices {
-            count: n + eights,
-            entries,
-        };
+    let mut all = Radices::of(list);
+    all.push_times(8, g / 3);
+    match g % 3 {
+        0 => {}
+        1 => all.push(2),
+        _ => all.push(4),
     }
-    if over == 1 {
-        pushed(entries, n + eights, 2)
-    } else {
-        pushed(entries, n + eights, 4)
-    }
+    all
 }
 
 // Refusals 2 and 3 over a list, with indices that run on from `from`.
@@ -78,13 +52,10 @@ fn check(from: usize, list: &[u8]) -> Verdict
     requires { from + length list.now < 2 ^ 64 }
     ensures { result ≡ verdict (list_rows from list.now) }
 {
-    let bad = first_bad(list);
-    if bad < list.len() {
+    if let Some(bad) = first_bad(list) {
         return Err(Refusal::NoRadix(from + bad));
     }
-    let run = running_product(list);
-    let over = run.at;
-    if over < list.len() {
+    if let Err(over) = running_product(list) {
         return Err(Refusal::TooLarge(from + over));
     }
     Ok(())
@@ -95,19 +66,19 @@ fn scaled_lists(target: usize, in_list: &[u8], out_list: &[u8]) -> Result<Scaled
     requires { Scalable target in_list.now out_list.now }
     ensures { result ≡ scaled target in_list.now out_list.now }
 {
-    let ins = running_product(in_list);
-    let outs = running_product(out_list);
-    let g = gain(target, ins.product);
+    let in_product = product(in_list);
+    let out_product = product(out_list);
+    let g = gain(target, in_product);
     let p = power(g);
-    if p * outs.product > 8192 {
+    if p * out_product > 8192 {
         return Err(Refusal::TooLarge(in_list.len() + out_list.len()));
     }
     let grown_in = grown(in_list, g);
     let grown_out = grown(out_list, g);
     Ok(Scaled {
         p,
-        in_product: p * ins.product,
-        out_product: p * outs.product,
+        in_product: p * in_product,
+        out_product: p * out_product,
         in_list: grown_in,
         out_list: grown_out,
     })

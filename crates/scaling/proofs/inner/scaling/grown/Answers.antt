@@ -1,27 +1,27 @@
 -- `scaling::inner::scaling::grown` meets its contract. Assumes nothing.
-use Rattle.sequences.proofs.Basics.{arith}
-use Rattle.scaling.proofs.Scaling.{grown_front, grown_room, grown_exact, grown_pushed, gained_one, gained_two}
+use Rattle.sequences.proofs.Basics.{sym, ap, ◌∙◌, ℕ, ◌/◌, List, ◌++◌, [], ◌∷◌, arith, replicate, append_assoc}
+use Rattle.radices.specs.Lists.{listed}
+use Rattle.scaling.proofs.Scaling.{grown_front, grown_room, gained_none, gained_one, gained_two}
 use Rattle.scaling.proofs.inner.scaling.grown.Goals as goal
 
-pub copied-requires : goal.copied-requires
-copied-requires c = omega (arith, grown_front c.args.list.now c.args.g c.requires)
+pub push_times-requires : goal.push_times-requires
+push_times-requires c = omega (arith, c.of-all.ensures.count, grown_front c.args.list.now c.args.g c.requires)
 
-pub filled-entries-requires : goal.filled-entries-requires
-filled-entries-requires c = grown_front c.args.list.now c.args.g c.requires
+pub push-requires : goal.push-requires
+push-requires c = omega (arith, c.of-all.ensures.count, c.push_times.ensures.count, grown_room c.args.list.now c.args.g c.requires (λ e. omega arith))
 
-pub returns-then-over-eq0 : goal.returns-then-over-eq0
-returns-then-over-eq0 c = grown_exact c.args.list.now c.args.g c.requires c.copied.ensures c.filled-entries.ensures c.if-over-eq0.true
+pub push-requires-in_default : goal.push-requires-in_default
+push-requires-in_default c = omega (arith, c.of-all.ensures.count, c.push_times.ensures.count, grown_room c.args.list.now c.args.g c.requires (λ e. omega arith))
 
-pub pushed-requires : goal.pushed-requires
-pushed-requires c = grown_room c.args.list.now c.args.g c.requires c.if-over-eq0.false
+pub returns-in-0 : goal.returns-in-0
+returns-in-0 c = c.push_times.ensures.list _ c.of-all.ensures.list ∙ ap (λ (more : List ℕ). listed (c.args.list.now ++ more)) (sym (gained_none c.args.g c.in-0.is))
 
-pub pushed-requires-else-over-eq1 : goal.pushed-requires-else-over-eq1
-pushed-requires-else-over-eq1 c = grown_room c.args.list.now c.args.g c.requires c.if-over-eq0.false
+pub returns-in-1 : goal.returns-in-1
+returns-in-1 c = let xs = c.args.list.now in let eights : List ℕ = replicate (c.args.g / 3) 8 in
+    c.push.ensures.list _ (c.push_times.ensures.list xs c.of-all.ensures.list)
+    ∙ ap listed (append_assoc xs eights (2 ∷ []) ∙ ap (λ (more : List ℕ). xs ++ more) (sym (gained_one c.args.g (λ e. omega arith) c.in-1.is)))
 
-pub returns-then-over-eq1 : goal.returns-then-over-eq1
-returns-then-over-eq1 c = grown_pushed c.args.list.now c.args.g c.requires c.copied.ensures c.filled-entries.ensures 2 c.if-over-eq0.false
-    (gained_one c.args.g c.if-over-eq0.false c.if-over-eq1.true) c.pushed.ensures
-
-pub returns-else-over-eq1 : goal.returns-else-over-eq1
-returns-else-over-eq1 c = grown_pushed c.args.list.now c.args.g c.requires c.copied.ensures c.filled-entries.ensures 4 c.if-over-eq0.false
-    (gained_two c.args.g c.if-over-eq0.false c.if-over-eq1.false) c.pushed-else-over-eq1.ensures
+pub returns-in_default : goal.returns-in_default
+returns-in_default c = let xs = c.args.list.now in let eights : List ℕ = replicate (c.args.g / 3) 8 in
+    c.push-in_default.ensures.list _ (c.push_times.ensures.list xs c.of-all.ensures.list)
+    ∙ ap listed (append_assoc xs eights (4 ∷ []) ∙ ap (λ (more : List ℕ). xs ++ more) (sym (gained_two c.args.g (λ e. omega arith) (λ e. omega arith))))

@@ -1,9 +1,0 @@
--- `merging::inner::merging::merge_all` meets its contract. Assumes nothing.
-use Rattle.merging.proofs.Merging.{low, SoFar}
-use Rattle.merging.proofs.inner.merging.merge_all.Given as goal
-
-abbrev pub invariant-merging : goal.invariant-merging
-invariant-merging l = SoFar l.initial.t l.letters l.count l.t
-
-abbrev pub decreases-merging : goal.decreases-merging
-decreases-merging l = low l.t
