@@ -13,7 +13,7 @@ use counts::inner::stages::result_in;
 use plan::Record;
 use radices::Radices;
 use refusal::Verdict;
-use turn::inner::words::words_of;
+use turn::inner::words::Words;
 
 // What planning answers, with the refusal as two numbers.
 #[repr(C)]
@@ -265,7 +265,7 @@ pub extern "C" fn ladlespindle_turn(t: u32, l: u32) -> TurnWords
     let verdict = turned.verdict;
     match verdict {
         Verdict::Accepted => {
-            let words = words_of(turn);
+            let words = Words::from(turn);
             TurnWords {
                 number: 0,
                 place: 0,

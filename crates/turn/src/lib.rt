@@ -5,7 +5,6 @@ pub mod inner;
 
 ghost use Rattle.turn.specs.Calls.{Turns};
 
-use house::inner::table::{cosines, sines};
 use inner::lookup::{is_housed, looked};
 use refusal::{Refusal, Verdict};
 
@@ -36,10 +35,8 @@ pub fn turn_of(t: u32, l: u32) -> Turned
             turn: Turn::General(0.0, 0.0),
         };
     }
-    let c = cosines();
-    let s = sines();
     Turned {
         verdict: Verdict::Accepted,
-        turn: looked(&c, &s, (t % l) as usize, l as usize),
+        turn: looked((t % l) as usize, l as usize),
     }
 }
