@@ -1,10 +1,10 @@
 -- The unrounded entry at an index, and what holds of each entry of the table. Assumes nothing.
-use Rattle.sequences.proofs.Basics.{◌≡◌, refl, sym, ap, ap₂, ◌∙◌, subst, ℕ, zero, suc, ◌-◌, ◌/◌, ◌%◌, ◌<◌, ◌≤◌, mod-lt, zero-lt-suc, arith, dec_le, Bool, true}
-use Rattle.sequences.proofs.Basics.{false, cond, dite, List, ltb, length, get_or, lt-ltb, le-ltb}
+use Rattle.sequences.proofs.Basics.{◌≡◌, refl, sym, subst, ℕ, zero, suc, ◌-◌, ◌/◌, ◌%◌, ◌<◌, ◌≤◌, mod-lt, zero-lt-suc, arith, dec_le, Bool, true}
+use Rattle.sequences.proofs.Basics.{false, cond, dite, ltb, lt-ltb, le-ltb}
 use Rattle.house.specs.declared.inner.entries.Entry.{Entry}
-use Rattle.house.specs.Entries.{plain, exchanged, mirrored, entry_of, House}
+use Rattle.house.specs.Entries.{plain, exchanged, mirrored, entry_of}
 use Rattle.house.specs.Rule.{cosine, sine}
-use Rattle.house.proofs.Rule.{counts, Some, entries}
+use Rattle.house.proofs.Rule.{Some, entries}
 
 -- a rest up to 840 is an entry, one above it an entry exchanged
 module _ (index : ℕ) where
@@ -18,20 +18,6 @@ module _ (index : ℕ) where
 
   pub entry_exchanged : 840 < index % 1680 → exchanged (index / 1680) (1680 - index % 1680) ≡ entry_of index
   entry_exchanged h = sym (by_mirror true (lt-ltb 840 (index % 1680) h))
-
--- the lists that are lent are the table
-module _ {cs ss : List ℕ} (h : House cs ss) where
-  pub house_long : (length cs ≡ 841) × (length ss ≡ 841)
-  house_long = (ap length h.cos ∙ counts.0, ap length h.sin ∙ counts.1)
-
-  -- so an entry read from them is the table's
-  pub read_plain : (q b : ℕ) → record { quarter = q; cosine = get_or cs b 0; sine = get_or ss b 0 } ≡ plain q b
-  unfolding plain
-  read_plain q b = ap₂ (λ (cs ss : List ℕ). record { quarter = q; cosine = get_or cs b 0; sine = get_or ss b 0 }) h.cos h.sin
-
-  pub read_exchanged : (q b : ℕ) → record { quarter = q; cosine = get_or ss b 0; sine = get_or cs b 0 } ≡ exchanged q b
-  unfolding exchanged
-  read_exchanged q b = ap₂ (λ (cs ss : List ℕ). record { quarter = q; cosine = get_or ss b 0; sine = get_or cs b 0 }) h.cos h.sin
 
 -- what holds of both numbers of each entry of the table, but perhaps of entry 0, holds of those at an index that is not whole quarters
 abbrev pub Both : (ℕ → Type 0) → Entry → Type 0

@@ -152,14 +152,20 @@ beyond_is c m k e hi lo =
     let p : 2 ^ m ≡ 16777216 * 2 ^ k = ap (λ (x : ℕ). 2 ^ x) e ∙ pow-add 2 24 k in
     record { low = λ (z : 0 < k). omega arith; high = omega arith }
 
-pub some_beyond : (c : ℕ) → c < 2 ^ 64 → count_leading_zeros 64 c < 40 → Beyond c (40 - count_leading_zeros 64 c)
+some_beyond : (c : ℕ) → c < 2 ^ 64 → count_leading_zeros 64 c < 40 → Beyond c (40 - count_leading_zeros 64 c)
 some_beyond c h l =
     let z = leading_length 64 c h in beyond_is c z.0 (40 - count_leading_zeros 64 c) (omega arith) z.2 z.3
 
-pub none_beyond : (c : ℕ) → c < 2 ^ 64 → 40 ≤ count_leading_zeros 64 c → Beyond c 0
+none_beyond : (c : ℕ) → c < 2 ^ 64 → 40 ≤ count_leading_zeros 64 c → Beyond c 0
 none_beyond c h l =
     let z = leading_length 64 c h in
     record { low = λ (z : 0 < 0). omega arith; high = lt_of_lt_of_le z.2 (pow_mono {j = 24} (omega arith)) }
+
+pub digits_beyond : (c k : ℕ) → c < 2 ^ 64 → k ≡ 40 - count_leading_zeros 64 c → Beyond c k
+digits_beyond c k h e =
+    let z = count_leading_zeros 64 c in
+    dite (dec_le 40 z) (λ (l : 40 ≤ z). let none : 0 ≡ k = omega arith in subst (Beyond c) none (none_beyond c h l))
+    (λ (n : 40 ≤ z → ⊥). subst (Beyond c) (sym e) (some_beyond c h (omega arith)))
 
 -- of a number up to 2 ^ 60 there are at most 37
 pub few_beyond : (c k : ℕ) → c ≤ 2 ^ 60 → Beyond c k → k ≤ 37

@@ -1,8 +1,7 @@
 -- The unrounded cosine and sine of an index of the house table, times 2 ^ 60, but for its whole quarters. Assumes nothing.
-use Rattle.std.specs.Prelude.{ℕ, ◌-◌, ◌/◌, ◌%◌, cond, ltb, ◌≡◌, List}
+use Rattle.std.specs.Prelude.{ℕ, ◌-◌, ◌/◌, ◌%◌, cond, ltb}
 use Rattle.house.specs.declared.inner.entries.Entry.{Entry}
 use Rattle.house.specs.Rule.{cosine, sine}
-use Rattle.house.specs.House.{cosines, sines}
 
 -- entry b of the table after q quarters, or with cosine and sine exchanged
 unfoldable pub plain : (q b : ℕ) → Entry
@@ -18,8 +17,3 @@ mirrored q b = cond (ltb 840 b) (exchanged q (1680 - b)) (plain q b)
 -- an index is a quarter number and a rest
 unfoldable pub entry_of : ℕ → Entry
 entry_of index = mirrored (index / 1680) (index % 1680)
-
--- two lists are the house table
-pub record House (cs ss : List ℕ) : Type 0 where
-  pub cos : cs ≡ cosines
-  pub sin : ss ≡ sines

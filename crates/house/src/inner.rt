@@ -2,4 +2,3 @@
 pub mod entries;
 pub mod house;
 pub mod rounding;
-pub mod table;

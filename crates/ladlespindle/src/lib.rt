@@ -15,7 +15,7 @@ use plan::Record;
 use radices::Radices;
 use refusal::{Verdict, number, place};
 use scaling::Scaled;
-use turn::inner::words::words_of;
+use turn::inner::words::Words;
 
 // What planning answers, with the refusal as two numbers.
 #[repr(C)]
@@ -301,7 +301,7 @@ pub extern "C" fn ladlespindle_turn(t: u32, l: u32) -> TurnWords
 {
     match turn::turn_of(t, l) {
         Ok(turn) => {
-            let words = words_of(turn);
+            let words = Words::from(turn);
             TurnWords {
                 number: 0,
                 place: 0,

@@ -1,8 +1,13 @@
 -- The parts of a doubling rise, from above 0 to below a doubling; the first that is large enough. Assumes nothing.
-use Rattle.sequences.proofs.Basics.{ℕ, zero, suc, ◌<◌, ◌≤◌, le_of_suc-le-suc, lt_of_not-le, arith, dec_le, dite, Bool, ◌&&◌, List, [], ◌∷◌, T, ltb, leb, ltb→lt}
+use Rattle.sequences.proofs.Basics.{◌≡◌, refl, sym, add-one, ℕ, zero, suc, ◌<◌, ◌≤◌, le_of_suc-le-suc, lt_of_not-le, arith, dec_le, dite, Bool, ◌&&◌, List, [], ◌∷◌, T, ltb, leb, ltb→lt}
 use Rattle.sequences.proofs.Basics.{length, get_or, le-leb, lt-leb}
 use Rattle.sequences.specs.Lists.{first_that}
 use Rattle.sequences.proofs.First.{first_most}
+use Rattle.std.specs.Prelude.{Option}
+use Rattle.std.specs.Option.{unwrap_or}
+use Rattle.std.specs.Prelude.{MatchOption}
+use Rattle.std.specs.List.{AllWithin, HoldsAt}
+use Rattle.std.proofs.lemmas.Iterator.{index_from_first}
 use lib.Ieee.Fits.{and_l, and_r}
 use Rattle.levels.specs.Parts.{parts}
 use Rattle.levels.specs.Levels.{part_at_least}
@@ -85,3 +90,13 @@ module _ (units : ℕ) where
   pub part_at : part_at_least units < 128 → units ≤ get_or parts (part_at_least units) 0
   unfolding part_at_least parts
   part_at h = at_first units parts h
+
+-- the index of the first part that is large enough, or 128
+pub part_found : (units : ℕ) (r : Option ℕ)
+    → MatchOption r (AllWithin (λ p. p < units) parts 0 (length parts))
+    (λ i. (i < length parts) × HoldsAt (λ p. units ≤ p) parts i × AllWithin (λ p. p < units) parts 0 i)
+    → (unwrap_or r 128 ≡ part_at_least units) × (unwrap_or r 128 ≤ 128)
+unfolding part_at_least first_that parts
+part_found units r h =
+    let found = index_from_first (first_that (leb units)) (λ p. units ≤ p) (λ p. p < units) refl (λ x xs l. rw (le-leb units x l)) (λ x xs l. rw (lt-leb units x l, add-one)) parts r h in
+    (sym found, omega (arith, found, first_most (leb units) parts))

@@ -1,26 +1,17 @@
 -- Laws of filling a stage: what its iterations ask for, and that each puts its twiddles in place. Assumes nothing.
-use Rattle.sequences.proofs.Basics.{◌∙◌, ◌≡◌, ap, sym, ◌%◌, ◌*◌, ◌+◌, ◌-◌, ◌/◌, ◌<◌, ◌≤◌, suc, ℕ, eq_of_mul-eq-mul_right, mul-le-mul_right, arith, List, length}
+use Rattle.sequences.proofs.Basics.{◌∙◌, ◌≡◌, sym, ◌%◌, ◌*◌, ◌+◌, ◌-◌, ◌/◌, ◌<◌, suc, ℕ, eq_of_mul-eq-mul_right, arith, List, length}
 use Rattle.sequences.specs.Pairs.{put_pair}
 use Rattle.sequences.proofs.Pairs.{length_put, put_here, put_still}
 use lib.Ieee.{Float, nan}
 use Rattle.schedule.proofs.Fill.{wrote_next, wrote_as}
 use Rattle.turn.specs.Turns.{turn_at, words_of}
-use Rattle.packing.specs.Parts.{Shape, Lanes, Turnable, Turned}
+use Rattle.packing.specs.Packs.{Packs}
+use Rattle.packing.specs.Parts.{Fillable, Lanes, Turnable, Turned}
 use Rattle.packing.specs.Twiddles.{twiddle}
-use Rattle.packing.specs.declared.inner.stages.Lane.{Lane}
+use Rattle.packing.specs.declared.inner.packing.Lane.{Lane}
 use Rattle.packing.proofs.Circle.{column_small, twiddle_steps}
 use Rattle.packing.proofs.Fill.{Placed, placed_next}
 use Rattle.packing.proofs.Places.{stands}
-
--- ---- an iteration's numbers
-
--- the index of the next twiddle is on the circle
-pub index_within : (each turn k index : ℕ) → each * turn < 6720 → k < each → index ≡ k * turn → index + turn < 6720
-index_within each turn k index small l e = omega (arith, mul-le-mul_right turn l)
-
--- and so is that of one turn
-pub turn_small : (each turn : ℕ) → 1 ≤ each → each * turn < 6720 → turn < 6720
-turn_small each turn some small = omega (arith, mul-le-mul_right turn some)
 
 -- ---- an iteration, twiddle by twiddle
 
@@ -37,30 +28,26 @@ turned_next turn first apart k before ys out p w some room ep ew e t = rw (e, ep
 
 -- ---- an iteration in its stage
 
-module _ (M s r W words : ℕ) (shape : Shape M s r W words) (i : ℕ) (li : i < M) (l : Lane) (lane : Lanes M s r W i l) where
-  -- how far each twiddle is turned on from the last
-  same_step : l.column * (6720 / (s * r)) ≡ i % s * (6720 / (s * r))
-  same_step = ap (λ (n : ℕ). n * (6720 / (s * r))) lane.column
-
+module _ (M s r W words : ℕ) (packs : Packs M r W) (fillable : Fillable M s r words) (i : ℕ) (li : i < M) (l : Lane) (lane : Lanes M r W i l) where
   -- its twiddles stand within the stage
-  pub lane_turnable : Turnable (l.column * (6720 / (s * r))) (r - 1) l.first l.apart words
+  pub lane_turnable : Turnable (i % s * (6720 / (s * r))) (r - 1) l.first l.apart words
   lane_turnable =
       record {
-        small = rw same_step (column_small s r i shape.columns shape.circle (r - 1) (omega (arith, shape.two)));
+        small = column_small s r i fillable.columns fillable.circle (r - 1) (omega (arith, fillable.two));
         some = lane.some;
         near = lane.near;
         within = λ k lk.
-            let here = (stands M r W shape.lane i (suc k) (omega arith) (omega arith) li).inside in
-            omega (arith, here, lane.stands k, shape.long);
+            let here = (stands M r W packs.lane i (suc k) (omega arith) (omega arith) li).inside in
+            omega (arith, here, lane.stands k, fillable.long);
       }
 
   -- one iteration more: the twiddles that the code finds are those of the iteration
   pub stage_next : (ys out : List Float) → length ys ≡ words → Placed nan M r W (twiddle s r) ys i
-      → Turned (l.column * (6720 / (s * r))) l.first l.apart (r - 1) ys out → (length out ≡ words) × Placed nan M r W (twiddle s r) out (i + 1)
+      → Turned (i % s * (6720 / (s * r))) l.first l.apart (r - 1) ys out → (length out ≡ words) × Placed nan M r W (twiddle s r) out (i + 1)
   stage_next ys out e placed t = (
     t.size ∙ e,
-    placed_next nan M r W shape.lane (twiddle s r) i li ys out (wrote_as (λ k lk. (
+    placed_next nan M r W packs.lane (twiddle s r) i li ys out (wrote_as (λ k lk. (
       sym (lane.stands k),
-      ap (λ (n : ℕ). words_of (turn_at (suc k * n))) same_step ∙ twiddle_steps s r i shape.columns shape.circle (suc k) (omega arith),
+      twiddle_steps s r i fillable.columns fillable.circle (suc k) (omega arith),
     )) t.pairs) placed,
   )

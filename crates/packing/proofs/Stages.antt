@@ -13,7 +13,8 @@ use Rattle.counts.proofs.Counts.{count_later, start_next, start_up, start_few}
 use Rattle.schedule.specs.Plans.{in_use}
 use Rattle.schedule.proofs.Plans.{use-stride, use-radix, use-parts, use-stride-some}
 use Rattle.turn.specs.Turns.{housed}
-use Rattle.packing.specs.Parts.{Packable, Shape}
+use Rattle.packing.specs.Packs.{Packs}
+use Rattle.packing.specs.Parts.{Packable, Fillable}
 use Rattle.packing.specs.Twiddles.{twiddle, stage_words, stages_words}
 use Rattle.packing.proofs.Circle.{housed_part}
 use Rattle.packing.proofs.Widths.{width_bounds}
@@ -67,18 +68,25 @@ module _ (p : Record) (W words : ℕ) (h : Packable p W words) where
         housed_part p.n (2 * blocks) (s * r) whole h.housed
 
     -- what filling it asks for
-    pub stage_shape : (room : ℕ) → room ≡ start (j + 1) - start j → Shape (p.half / r) s r W room
-    stage_shape room e =
+    pub stage_fillable : (room : ℕ) → room ≡ start (j + 1) - start j → Fillable (p.half / r) s r room
+    stage_fillable room e =
+        record {
+          columns = rw same_stride (use-stride-some p h.planned j known);
+          two = omega (arith, plan_radix_bounds p h.planned j known, er);
+          circle = part_circle;
+          long = e ∙ part_long;
+        }
+
+    -- how it is packed
+    pub stage_packs : Packs (p.half / r) r W
+    stage_packs =
         let bounds = plan_radix_bounds p h.planned j known in let width = width_bounds W h.width in
         record {
           iterations = omega (arith, div-le_self p.half r, plan_half p h.planned);
-          columns = rw same_stride (use-stride-some p h.planned j known);
-          two = omega (arith, bounds, er);
+          some = omega (arith, bounds, er);
           eight = omega (arith, bounds, er);
-          circle = part_circle;
           lane = width.0;
           narrow = width.1;
-          long = e ∙ part_long;
         }
 
     -- the words of stage j

@@ -1,12 +1,8 @@
 -- Laws of the widths. Assumes nothing.
-use Rattle.sequences.proofs.Basics.{◌≡◌, refl, sym, ap, ◌∙◌, ℕ, ◌<◌, ◌≤◌, arith, Bool, true, false, ◌||◌, eqb, eqb-true, ne_eqb}
+use Rattle.sequences.proofs.Basics.{◌≡◌, refl, ℕ, ◌<◌, ◌≤◌, arith, Bool, true, false, ◌||◌, eqb, eqb-true, ne_eqb}
 use Rattle.packing.specs.Places.{is_width}
 
--- k is a width
-pub width_is : (W k : ℕ) → is_width k ≡ true → W ≡ k → true ≡ is_width W
-width_is W k t e = sym (ap is_width e ∙ t)
-
--- there are no others
+-- 1, 2 and 4 are the only widths
 pub no_width : (W : ℕ) → (W ≡ 1 → ⊥) → (W ≡ 2 → ⊥) → (W ≡ 4 → ⊥) → false ≡ is_width W
 unfolding is_width
 no_width W a b c = simp (ne_eqb W 1 a, ne_eqb W 2 b, ne_eqb W 4 c)

@@ -1,4 +1,5 @@
 -- The definitions that contracts cite.
+pub mod Packs
 pub mod Places
 pub mod Twiddles
 pub mod Parts

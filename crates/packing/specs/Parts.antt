@@ -1,5 +1,5 @@
 -- What the parts of filling the stages ask for and leave. Assumes nothing.
-use Rattle.std.specs.Prelude.{ℕ, suc, ◌+◌, ◌-◌, ◌*◌, ◌%◌, ◌≤◌, ◌<◌, ◌≡◌, true, List, Float, length}
+use Rattle.std.specs.Prelude.{ℕ, suc, ◌+◌, ◌-◌, ◌*◌, ◌≤◌, ◌<◌, ◌≡◌, true, List, Float, length}
 use Rattle.std.specs.Float.{nan}
 use Rattle.sequences.specs.Pairs.{pair_at}
 use Rattle.counts.specs.Counts.{stage_twiddles}
@@ -8,7 +8,7 @@ use Rattle.plan.specs.declared.Record.{Record}
 use Rattle.schedule.specs.Parts.{Wrote}
 use Rattle.turn.specs.Turns.{housed, turn_at, words_of}
 use Rattle.packing.specs.Places.{is_width, place}
-use Rattle.packing.specs.declared.inner.stages.Lane.{Lane}
+use Rattle.packing.specs.declared.inner.packing.Lane.{Lane}
 
 -- what the filling of the stages asks of a plan, a width and a slice of so many words
 pub record Packable (p : Record) (W words : ℕ) : Type 0 where
@@ -17,30 +17,17 @@ pub record Packable (p : Record) (W words : ℕ) : Type 0 where
   pub width : is_width W ≡ true
   pub long : words ≡ 2 * stage_twiddles p
 
--- what the filling of a stage asks of its sizes and of a slice of so many words: it divides the circle of the house table
-pub record Shape (M s r W words : ℕ) : Type 0 where
-  pub iterations : M ≤ 4096
+-- what the filling of a stage at stride s asks of its sizes and of a slice of so many words: it divides the circle of the house table
+pub record Fillable (M s r words : ℕ) : Type 0 where
   pub columns : 0 < s
   pub two : 2 ≤ r
-  pub eight : r ≤ 8
   pub circle : housed (s * r) ≡ true
-  pub lane : 0 < W
-  pub narrow : W ≤ 4
   pub long : words ≡ 2 * (M * (r - 1))
 
--- what working out the lane of iteration i asks of its numbers
-pub record Laned (i s r W : ℕ) : Type 0 where
-  pub early : i < 4096
-  pub columns : 0 < s
-  pub some : 0 < r
-  pub eight : r ≤ 8
-  pub lane : 0 < W
-  pub narrow : W ≤ 4
-
--- the column of iteration i, and where its twiddles stand
-pub record Lanes (M s r W i : ℕ) (l : Lane) : Type 0 where
-  pub column : l.column ≡ i % s
+-- where the twiddles of iteration i stand
+pub record Lanes (M r W i : ℕ) (l : Lane) : Type 0 where
   pub stands : (k : ℕ) → place M r W i (suc k) ≡ l.first + k * l.apart
+  pub low : l.first ≤ 200000
   pub some : 0 < l.apart
   pub near : l.apart ≤ 4
 

@@ -1,4 +1,5 @@
 // Where twiddles stand, and the filling of the stages.
+pub mod packing;
 pub mod places;
 pub mod stages;
 pub mod words;

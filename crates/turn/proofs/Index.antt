@@ -1,6 +1,6 @@
 -- Which parts of a circle the table serves, and their index: reduced, scaled, and that of whole quarters. Assumes nothing.
 use Rattle.sequences.proofs.Basics.{◌≡◌, sym, ap, ◌∙◌, subst, ℕ, zero, suc, ◌+◌, ◌*◌, ◌/◌, ◌%◌, ◌<◌, mod-lt, mod-mod, mod-eq_of_lt, zero-mul, mul_comm}
-use Rattle.sequences.proofs.Basics.{mul_assoc, mul-div_cancel, div-add-mod', mul-lt-mul_of_pos_right, arith, true, false, true≢false, eqb-true}
+use Rattle.sequences.proofs.Basics.{mul_assoc, mul-div_cancel, div-add-mod', mul-lt-mul_of_pos_right, arith, true, true≢false, eqb-true}
 use Rattle.turn.specs.Calls.{part}
 use Rattle.turn.specs.Turns.{housed, index_of, turn_at, turn_of, quarters}
 use Rattle.turn.proofs.Lookup.{turn_whole}
@@ -64,8 +64,3 @@ whole_quarters t L q h l e =
 
     quarter : (i : ℕ) → i ≡ q * 1680 → i / 1680 ≡ q
     quarter i e = omega arith
-
--- the test's answer to 0
-pub housed_zero : (L : ℕ) → L ≡ 0 → false ≡ housed L
-unfolding housed
-housed_zero L e = simp e

@@ -5,7 +5,6 @@ pub mod inner;
 
 ghost use Rattle.turn.specs.Calls.{Turns};
 
-use house::inner::table::{cosines, sines};
 use inner::lookup::{is_housed, looked};
 use refusal::Refusal;
 
@@ -26,7 +25,5 @@ pub fn turn_of(t: u32, l: u32) -> Result<Turn, Refusal>
     if !is_housed(l as usize) {
         return Err(Refusal::NotHoused);
     }
-    let c = cosines();
-    let s = sines();
-    Ok(looked(&c, &s, (t % l) as usize, l as usize))
+    Ok(looked((t % l) as usize, l as usize))
 }

@@ -1,13 +1,12 @@
 // The end twiddles of either direction.
 ghost use Rattle.std.specs.Prelude.{◌≡◌, length};
-ghost use Rattle.house.specs.Entries.{House};
 ghost use Rattle.end_twiddles.specs.Ends.{directed as directedOf, end_words};
 ghost use Rattle.end_twiddles.specs.Parts.{Endable};
 
 use counts::inner::stages::end_count;
 use packing::inner::words::put;
 use turn::inner::lookup::at;
-use turn::inner::words::{Words, words_of};
+use turn::inner::words::Words;
 
 // The direction of a transform.
 #[derive(Clone, Copy)]
@@ -33,16 +32,13 @@ fn directed(direction: Direction, w: Words) -> Words
 }
 
 // The end twiddles of a length, k from 1 on.
-pub fn ends(cosines: &[u64], sines: &[u64], direction: Direction, n: usize, out: &mut [f32])
-    requires { House cosines.now sines.now × Endable n (length out.old) }
+pub fn ends(direction: Direction, n: usize, out: &mut [f32])
+    requires { Endable n (length out.old) }
     ensures { out.new ≡ end_words direction n }
 {
-    let count = end_count(n);
     let step = 6720 / n;
-    let mut k: usize = 0;
-    while k < count {
-        let t = words_of(at(cosines, sines, (k + 1) * step));
-        put(out, k, directed(direction, t));
-        k += 1;
+    for k in 0..end_count(n) {
+        let words = Words::from(at((k + 1) * step));
+        put(out, k, directed(direction, words));
     }
 }

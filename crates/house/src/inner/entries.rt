@@ -1,6 +1,8 @@
-// An entry of the house table, which is lent.
+// An entry of the house table.
 ghost use Rattle.std.specs.Prelude.{◌≡◌, ◌<◌};
-ghost use Rattle.house.specs.Entries.{House, entry_of};
+ghost use Rattle.house.specs.Entries.{entry_of};
+
+use crate::inner::house::{COSINES, SINES};
 
 // A quarter number, and the cosine and sine of the rest times 2^60, unrounded.
 #[derive(Clone, Copy)]
@@ -11,23 +13,23 @@ pub struct Entry {
 }
 
 // The unrounded entry at an index, in parts of 1/6,720 of a circle.
-pub fn unrounded(cosines: &[u64], sines: &[u64], index: usize) -> Entry
-    requires { House cosines.now sines.now × (index < 6720) }
+pub fn unrounded(index: usize) -> Entry
+    requires { index < 6720 }
     ensures { result ≡ entry_of index }
 {
     let quarter = index / 1680;
     let b = index % 1680;
     if b > 840 {
-        let m = 1680 - b;
-        return Entry {
-            quarter: quarter,
-            cosine: sines[m],
-            sine: cosines[m],
-        };
-    }
-    Entry {
-        quarter: quarter,
-        cosine: cosines[b],
-        sine: sines[b],
+        Entry {
+            quarter,
+            cosine: SINES[1680 - b],
+            sine: COSINES[1680 - b],
+        }
+    } else {
+        Entry {
+            quarter,
+            cosine: COSINES[b],
+            sine: SINES[b],
+        }
     }
 }

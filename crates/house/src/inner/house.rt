@@ -1,6 +1,6 @@
 // The house table: cosine and sine of b/6,720 of a circle times 2^60, rounded to nearest, for b = 0 to 840.
 // Made by tools/house-table.
-pub const COSINES: [u64; 841] = [
+pub static COSINES: [u64; 841] = [
     1152921504606846976,
     1152921000652839438,
     1152919488791257390,
@@ -844,7 +844,7 @@ pub const COSINES: [u64; 841] = [
     815238614083298888,
 ];
 
-pub const SINES: [u64; 841] = [
+pub static SINES: [u64; 841] = [
     0,
     1077978928958078,
     2155956915524504,

@@ -5,32 +5,26 @@ ghost use Rattle.std.specs.Float.Ieee.{round};
 ghost use Rattle.std.specs.Float.Ieee.Nearest.{closest as closestTo};
 ghost use Rattle.house.specs.Rounding.{Beyond};
 
+use std::cmp::Ordering;
+
 // c / u rounded to the nearest whole number, a tie to the even one.
 fn closest(c: u64, u: u64) -> u64
     requires { (0 < u) × (u ≤ 2 ^ 61) × (c ≤ 2 ^ 62) }
     ensures { result ≡ closestTo c u }
 {
-    let q = c / u;
-    let r = c % u;
-    let t = r * 2;
-    if t < u {
-        return q;
+    let quotient = c / u;
+    match (c % u * 2).cmp(&u) {
+        Ordering::Less => quotient,
+        Ordering::Equal => quotient + quotient % 2,
+        Ordering::Greater => quotient + 1,
     }
-    if t == u {
-        return q + q % 2;
-    }
-    q + 1
 }
 
 // How many binary digits of c are beyond the 24 that an f32 keeps.
 fn beyond(c: u64) -> u32
     ensures { Beyond c result }
 {
-    let zeros = u64::leading_zeros(c);
-    if zeros < 40 {
-        return 40 - zeros;
-    }
-    0
+    40u32.saturating_sub(c.leading_zeros())
 }
 
 // c / 2^60 as an f32.

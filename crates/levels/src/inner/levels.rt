@@ -7,7 +7,8 @@ ghost use Rattle.levels.specs.Levels.{step_of, units_of, level_of, part_at_least
 
 use crate::inner::parts::PARTS;
 
-// The step of a power: its exponent and the part of the doubling that it is in. 0 below the least normal number and for a NaN.
+// The step of a power: its exponent and the part of the doubling that it is in. 0 below the least normal number and for a NaN:
+// it is the lowest step, which is compared and drawn as the others are, and no mark beside them.
 pub fn step_of(power: f32) -> usize
     ensures { (result ≡ step_of power) × (result ≤ 65535) }
 {
@@ -48,17 +49,10 @@ pub fn level_of(full: usize, step: usize) -> usize
 fn part_at_least(units: usize) -> usize
     ensures { (result ≡ part_at_least units) × (result ≤ 128) }
 {
-    let mut k: usize = 0;
-    let found = loop {
-        if k >= 128 {
-            break 128;
-        }
-        if part(k) >= units {
-            break k;
-        }
-        k += 1;
-    };
-    found
+    PARTS
+        .iter()
+        .position(|part| *part as usize >= units)
+        .unwrap_or(128)
 }
 
 // The least step that has a level.
@@ -71,11 +65,7 @@ pub fn least_step(full: usize, level: usize) -> usize
         return 128;
     }
     let needed = least - 16000500;
-    let step = 128 * (needed / 30103) + part_at_least(needed % 30103);
-    if step > 32639 {
-        return 32639;
-    }
-    step
+    (128 * (needed / 30103) + part_at_least(needed % 30103)).min(32639)
 }
 
 // The least power of a step.
@@ -105,12 +95,7 @@ pub fn lowest_above(full: usize, level: usize, parts: usize) -> usize
     requires { (full ≤ 65535) × (level ≤ 16000) }
     ensures { (result ≡ lowest full parts level) × (result ≤ 16000) }
 {
-    let mut at = level;
-    while at < 16000 {
-        if is_above(least_step(full, at), parts) {
-            return at;
-        }
-        at += 1;
-    }
-    at
+    (level..16000)
+        .find(|at| is_above(least_step(full, *at), parts))
+        .unwrap_or(16000)
 }

@@ -1,6 +1,6 @@
 // The 128 parts of a doubling: the level of each one's middle, in ten-thousandths of a decibel, rounded to nearest.
 // Made by tools/levels-table.
-pub const PARTS: [u32; 128] = [
+pub static PARTS: [u32; 128] = [
     169, 506, 840, 1172, 1501, 1827, 2151, 2473, 2792, 3109, 3424, 3736, 4047, 4355, 4660, 4964,
     5266, 5565, 5863, 6158, 6452, 6743, 7033, 7320, 7606, 7890, 8172, 8452, 8730, 9007, 9282, 9555,
     9827, 10096, 10364, 10631, 10896, 11159, 11420, 11680, 11939, 12196, 12451, 12705, 12958,

@@ -3,23 +3,18 @@ ghost use Rattle.std.specs.Prelude.{◌≡◌, true, length};
 ghost use Rattle.listening.specs.Block.{hann, weighed};
 ghost use Rattle.turn.specs.Turns.{housed};
 
-use house::inner::table::{cosines, sines};
 use turn::inner::lookup::looked;
-use turn::inner::words::words_of;
+use turn::inner::words::Words;
 
 // The weights of a block, as many as the slice is long.
 pub fn window(out: &mut [f32])
     requires { housed (length out.old) ≡ true }
     ensures { out.new ≡ hann (length out.old) }
 {
-    let c = cosines();
-    let s = sines();
     let n = out.len();
-    let mut i: usize = 0;
-    while i < n {
-        let turned = words_of(looked(&c, &s, i, n));
-        out[i] = 0.5 - 0.5 * turned.re;
-        i += 1;
+    for (i, weight) in out.iter_mut().enumerate() {
+        let turned = Words::from(looked(i, n));
+        *weight = 0.5 - 0.5 * turned.re;
     }
 }
 
@@ -27,13 +22,7 @@ pub fn window(out: &mut [f32])
 pub fn weigh(samples: &mut [f32], weights: &[f32])
     ensures { samples.new ≡ weighed samples.old weights.now }
 {
-    let mut n = samples.len();
-    if weights.len() < n {
-        n = weights.len();
-    }
-    let mut i: usize = 0;
-    while i < n {
-        samples[i] = samples[i] * weights[i];
-        i += 1;
+    for i in 0..samples.len().min(weights.len()) {
+        samples[i] *= weights[i];
     }
 }

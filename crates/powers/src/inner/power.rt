@@ -20,10 +20,8 @@ pub fn powers(w: u64, m: u64) -> [u64; 8]
     ensures { (t : ℕ) → t < 8 → get_or result t 0 ≡ w ^ t % m }
 {
     let mut all = [1u64; 8];
-    let mut t: usize = 1;
-    while t < 8 {
+    for t in 1..8 {
         all[t] = all[t - 1] * w % m;
-        t += 1;
     }
     all
 }

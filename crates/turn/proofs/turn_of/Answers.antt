@@ -15,10 +15,8 @@ overflow_cast-t c = omega (arith, mod-lt c.args.t (housed_pos c.args.l (sym c.is
 
 pub looked-requires : goal.looked-requires
 looked-requires c =
-    let served = sym c.is_housed.ensures ∙ c.if-not-is_housed.false in (
-      record { cos = c.cosines-c.ensures; sin = c.sines-s.ensures },
-      record { divides = served; below = mod-lt c.args.t (housed_pos c.args.l served) },
-    )
+    let served = sym c.is_housed.ensures ∙ c.if-not-is_housed.false in
+    record { divides = served; below = mod-lt c.args.t (housed_pos c.args.l served) }
 
 pub returns : goal.returns
 returns c = accepted c.args.t c.args.l c.looked.result (sym c.is_housed.ensures ∙ c.if-not-is_housed.false) c.looked.ensures

@@ -12,14 +12,17 @@ pub struct Words {
 }
 
 // The words of a turn: 1, -1 and +0 where it is whole quarters.
-pub fn words_of(t: Turn) -> Words
-    ensures { (result.re, result.im) ≡ words_of t }
-{
-    match t {
-        Turn::Zero => Words { re: 1.0, im: 0.0 },
-        Turn::Quarter => Words { re: 0.0, im: -1.0 },
-        Turn::Half => Words { re: -1.0, im: 0.0 },
-        Turn::ThreeQuarter => Words { re: 0.0, im: 1.0 },
-        Turn::General(re, im) => Words { re: re, im: im },
+impl From<Turn> for Words {
+    ghost from_gives = { λ turn words. (words.re, words.im) ≡ words_of turn };
+
+    #[tactic(auto, unfolding(crate::specs::Turns::words_of))]
+    fn from(turn: Turn) -> Words {
+        match turn {
+            Turn::Zero => Words { re: 1.0, im: 0.0 },
+            Turn::Quarter => Words { re: 0.0, im: -1.0 },
+            Turn::Half => Words { re: -1.0, im: 0.0 },
+            Turn::ThreeQuarter => Words { re: 0.0, im: 1.0 },
+            Turn::General(re, im) => Words { re, im },
+        }
     }
 }

@@ -3,12 +3,11 @@ ghost use Rattle.twiddle.specs.Calls.{Fills};
 
 use crate::inner::check::lent;
 use end_twiddles::inner::ends::{Direction, ends};
-use house::inner::table::{cosines, sines};
 use packing::inner::stages::stages;
 use plan::Record;
 use refusal::Verdict;
 
-// The twiddles of a plan, packed for a width; the table is made once and lent.
+// The twiddles of a plan, packed for a width.
 pub fn fill(
     direction: Direction,
     plan: Record,
@@ -19,9 +18,7 @@ pub fn fill(
     ensures { Fills direction plan width (stage_twiddles.old, end_twiddles.old) result (stage_twiddles.new, end_twiddles.new) }
 {
     lent(plan, width, stage_twiddles.len(), end_twiddles.len())?;
-    let c = cosines();
-    let s = sines();
-    stages(&c, &s, plan, width, stage_twiddles);
-    ends(&c, &s, direction, plan.n, end_twiddles);
+    stages(plan, width, stage_twiddles);
+    ends(direction, plan.n, end_twiddles);
     Ok(())
 }

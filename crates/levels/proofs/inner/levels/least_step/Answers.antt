@@ -12,11 +12,6 @@ step_is full level u p e h q = rw q (least_high full level u e h)
 pub returns-then-least-lt16030603 : goal.returns-then-least-lt16030603
 returns-then-least-lt16030603 c = (least_low _ _ _ c.units_of.ensures.0 c.if-least-lt16030603.true, search rules)
 
-pub returns-then-step-gt32639 : goal.returns-then-step-gt32639
-returns-then-step-gt32639 c =
-    let u = c.units_of in let p = c.part_at_least in
-    omega (arith, step_is c.args.full c.args.level u.result p.result u.ensures.0 c.if-least-lt16030603.false p.ensures.0)
-
 pub returns : goal.returns
 returns c =
     let u = c.units_of in let p = c.part_at_least in

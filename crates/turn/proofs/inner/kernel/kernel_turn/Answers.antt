@@ -1,88 +1,85 @@
 -- `turn::inner::kernel::kernel_turn` meets its contract. Assumes nothing.
-use Rattle.sequences.proofs.Basics.{refl, ◌∙◌, arith}
-use Rattle.turn.proofs.Kernel.{by_key, small, keyed, quartered}
+use Rattle.sequences.proofs.Basics.{◌≡◌, refl, ◌∙◌, ◌*◌, ◌%◌, arith}
+use Rattle.turn.proofs.Kernel.{opened, small, told, whole, evenly}
 use Rattle.turn.proofs.inner.kernel.kernel_turn.Goals as goal
-
-pub overflow_mul-r : goal.overflow_mul-r
-unfolding by_key
-overflow_mul-r c = omega (arith, small c.requires)
-
-pub overflow_add-r : goal.overflow_add-r
-unfolding by_key
-overflow_add-r c = omega (arith, small c.requires)
+use Rattle.turn.proofs.inner.kernel.kernel_turn.Goals.{in_default-via-in-3+in_default, in_default-via-in-5+in_default, in_default-via-in-7+in_default}
+use Rattle.turn.proofs.inner.kernel.kernel_turn.Goals.{in_default-via-in-8+in_default, in_default-via-in_default}
 
 pub overflow_mul-t : goal.overflow_mul-t
-unfolding by_key
 overflow_mul-t c = omega (arith, small c.requires)
 
-pub nonzero_div-t : goal.nonzero_div-t
-unfolding by_key
-nonzero_div-t c = omega (arith, small c.requires)
+pub returns-in-3-eq1 : goal.returns-in-3-eq1
+unfolding opened
+returns-in-3-eq1 c = told _ _ 1 3 _ refl c.in-3-eq1.is-0 c.in-3-eq1.is-1
 
-pub returns-in-25 : goal.returns-in-25
-unfolding by_key
-returns-in-25 c = keyed _ _ 25 _ refl c.requires c.in-25.is
+pub returns-in-3-eq2 : goal.returns-in-3-eq2
+unfolding opened
+returns-in-3-eq2 c = told _ _ 2 3 _ refl c.in-3-eq2.is-0 c.in-3-eq2.is-1
 
-pub returns-in-26 : goal.returns-in-26
-unfolding by_key
-returns-in-26 c = keyed _ _ 26 _ refl c.requires c.in-26.is
+pub returns-in-5-eq1 : goal.returns-in-5-eq1
+unfolding opened
+returns-in-5-eq1 c = told _ _ 1 5 _ refl c.in-5-eq1.is-0 c.in-5-eq1.is-1
 
-pub returns-in-41 : goal.returns-in-41
-unfolding by_key
-returns-in-41 c = keyed _ _ 41 _ refl c.requires c.in-41.is
+pub returns-in-5-eq2 : goal.returns-in-5-eq2
+unfolding opened
+returns-in-5-eq2 c = told _ _ 2 5 _ refl c.in-5-eq2.is-0 c.in-5-eq2.is-1
 
-pub returns-in-42 : goal.returns-in-42
-unfolding by_key
-returns-in-42 c = keyed _ _ 42 _ refl c.requires c.in-42.is
+pub returns-in-5-eq3 : goal.returns-in-5-eq3
+unfolding opened
+returns-in-5-eq3 c = told _ _ 3 5 _ refl c.in-5-eq3.is-0 c.in-5-eq3.is-1
 
-pub returns-in-43 : goal.returns-in-43
-unfolding by_key
-returns-in-43 c = keyed _ _ 43 _ refl c.requires c.in-43.is
+pub returns-in-5-eq4 : goal.returns-in-5-eq4
+unfolding opened
+returns-in-5-eq4 c = told _ _ 4 5 _ refl c.in-5-eq4.is-0 c.in-5-eq4.is-1
 
-pub returns-in-44 : goal.returns-in-44
-unfolding by_key
-returns-in-44 c = keyed _ _ 44 _ refl c.requires c.in-44.is
+pub returns-in-7-eq1 : goal.returns-in-7-eq1
+unfolding opened
+returns-in-7-eq1 c = told _ _ 1 7 _ refl c.in-7-eq1.is-0 c.in-7-eq1.is-1
 
-pub returns-in-57 : goal.returns-in-57
-unfolding by_key
-returns-in-57 c = keyed _ _ 57 _ refl c.requires c.in-57.is
+pub returns-in-7-eq2 : goal.returns-in-7-eq2
+unfolding opened
+returns-in-7-eq2 c = told _ _ 2 7 _ refl c.in-7-eq2.is-0 c.in-7-eq2.is-1
 
-pub returns-in-58 : goal.returns-in-58
-unfolding by_key
-returns-in-58 c = keyed _ _ 58 _ refl c.requires c.in-58.is
+pub returns-in-7-eq3 : goal.returns-in-7-eq3
+unfolding opened
+returns-in-7-eq3 c = told _ _ 3 7 _ refl c.in-7-eq3.is-0 c.in-7-eq3.is-1
 
-pub returns-in-59 : goal.returns-in-59
-unfolding by_key
-returns-in-59 c = keyed _ _ 59 _ refl c.requires c.in-59.is
+pub returns-in-7-eq4 : goal.returns-in-7-eq4
+unfolding opened
+returns-in-7-eq4 c = told _ _ 4 7 _ refl c.in-7-eq4.is-0 c.in-7-eq4.is-1
 
-pub returns-in-60 : goal.returns-in-60
-unfolding by_key
-returns-in-60 c = keyed _ _ 60 _ refl c.requires c.in-60.is
+pub returns-in-7-eq5 : goal.returns-in-7-eq5
+unfolding opened
+returns-in-7-eq5 c = told _ _ 5 7 _ refl c.in-7-eq5.is-0 c.in-7-eq5.is-1
 
-pub returns-in-61 : goal.returns-in-61
-unfolding by_key
-returns-in-61 c = keyed _ _ 61 _ refl c.requires c.in-61.is
+pub returns-in-7-eq6 : goal.returns-in-7-eq6
+unfolding opened
+returns-in-7-eq6 c = told _ _ 6 7 _ refl c.in-7-eq6.is-0 c.in-7-eq6.is-1
 
-pub returns-in-62 : goal.returns-in-62
-unfolding by_key
-returns-in-62 c = keyed _ _ 62 _ refl c.requires c.in-62.is
+pub returns-in-8-eq1 : goal.returns-in-8-eq1
+unfolding opened
+returns-in-8-eq1 c = told _ _ 1 8 _ refl c.in-8-eq1.is-0 c.in-8-eq1.is-1
 
-pub returns-in-65 : goal.returns-in-65
-unfolding by_key
-returns-in-65 c = keyed _ _ 65 _ refl c.requires c.in-65.is
+pub returns-in-8-eq3 : goal.returns-in-8-eq3
+unfolding opened
+returns-in-8-eq3 c = told _ _ 3 8 _ refl c.in-8-eq3.is-0 c.in-8-eq3.is-1
 
-pub returns-in-67 : goal.returns-in-67
-unfolding by_key
-returns-in-67 c = keyed _ _ 67 _ refl c.requires c.in-67.is
+pub returns-in-8-eq5 : goal.returns-in-8-eq5
+unfolding opened
+returns-in-8-eq5 c = told _ _ 5 8 _ refl c.in-8-eq5.is-0 c.in-8-eq5.is-1
 
-pub returns-in-69 : goal.returns-in-69
-unfolding by_key
-returns-in-69 c = keyed _ _ 69 _ refl c.requires c.in-69.is
-
-pub returns-in-71 : goal.returns-in-71
-unfolding by_key
-returns-in-71 c = keyed _ _ 71 _ refl c.requires c.in-71.is
+pub returns-in-8-eq7 : goal.returns-in-8-eq7
+unfolding opened
+returns-in-8-eq7 c = told _ _ 7 8 _ refl c.in-8-eq7.is-0 c.in-8-eq7.is-1
 
 pub returns-in_default : goal.returns-in_default
-unfolding by_key
-returns-in_default c = c.quarters.ensures ∙ quartered c.args.t c.args.r c.requires c.in_default.in_default-own.rest
+returns-in_default c = c.quarters.ensures ∙ whole c.args.t c.args.r c.requires rest
+  where
+    rest : 4 * c.args.t % c.args.r ≡ 0
+    rest = elim c.in_default.branch [
+      | in_default-via-in-3+in_default w ↦ let below = c.requires.below in let h = w.in_default in rw h.is-0 (omega arith)
+      | in_default-via-in-5+in_default w ↦ let below = c.requires.below in let h = w.in_default in rw h.is-0 (omega arith)
+      | in_default-via-in-7+in_default w ↦ let below = c.requires.below in let h = w.in_default in rw h.is-0 (omega arith)
+      | in_default-via-in-8+in_default w ↦ let below = c.requires.below in let h = w.in_default in rw h.is-0 (omega arith)
+      | in_default-via-in_default w ↦ let h = w.in_default.is-0 in evenly c.args.t c.args.r c.requires (omega arith) (omega arith) (omega arith) (omega arith)
+    ]

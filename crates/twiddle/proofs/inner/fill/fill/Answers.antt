@@ -5,16 +5,16 @@ use Rattle.twiddle.proofs.Verdicts.{taken, fill_refused, fill_accepted}
 use Rattle.twiddle.proofs.inner.fill.fill.Goals as goal
 
 pub stages-requires : goal.stages-requires
-stages-requires c = let a = c.args in let t = taken a.plan a.width _ _ _ c.lent.ensures c.in_ok-lent.was in (
-  record { cos = c.cosines-c.ensures; sin = c.sines-s.ensures },
-  record { planned = t.planned; housed = t.housed; width = t.width; long = t.stages },
-)
+stages-requires c =
+    let a = c.args in
+    let t = taken a.plan a.width _ _ _ c.lent.ensures c.in_ok-lent.was in
+    record { planned = t.planned; housed = t.housed; width = t.width; long = t.stages }
 
 pub ends-requires : goal.ends-requires
-ends-requires c = let a = c.args in let t = taken a.plan a.width _ _ _ c.lent.ensures c.in_ok-lent.was in (
-  record { cos = c.cosines-c.ensures; sin = c.sines-s.ensures },
-  record { some = plan_some a.plan t.planned; housed = t.housed; long = t.ends },
-)
+ends-requires c =
+    let a = c.args in
+    let t = taken a.plan a.width _ _ _ c.lent.ensures c.in_ok-lent.was in
+    record { some = plan_some a.plan t.planned; housed = t.housed; long = t.ends }
 
 pub returns : goal.returns
 returns c = let a = c.args in let told = c.lent.ensures in let accepted = c.in_ok-lent.was in fill_accepted a.direction a.plan a.width
