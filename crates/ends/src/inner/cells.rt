@@ -2,13 +2,14 @@
 ghost use Rattle.std.specs.Prelude.{◌≡◌, length, ◌+◌, ◌*◌, ◌≤◌, ◌<◌};
 ghost use Rattle.ends.specs.Ends.{ended, postprocess_fft};
 ghost use Rattle.floats.specs.Complexes.{cell, put_cell};
-ghost use Rattle.mixing.specs.Parts.{steps_of};
 ghost use Rattle.ends.specs.Parts.{prepared, Endable, EndsAs, Batchable, Batched, Stepped};
 
 use floats::complex::Complex;
 use floats::inner::cells::{get, put};
 use floats::inner::words::paste;
-use mixing::inner::steps::{centre, far, first, last, near};
+use mixing::inner::forward::Forward;
+use mixing::inner::inverse::Inverse;
+use mixing::inner::steps::Direction;
 
 // Two cells, written.
 fn put_both(cells: &mut [f32], i: usize, j: usize, y: Complex, z: Complex)
@@ -20,7 +21,7 @@ fn put_both(cells: &mut [f32], i: usize, j: usize, y: Complex, z: Complex)
 }
 
 // The pairs k to k + len, one way: their near cells to `ahead`, and their far cells to the end of `back`, the last pair's first.
-fn batch(
+fn batch<D: Direction>(
     cells: &[f32],
     twiddles: &[f32],
     ahead: &mut [f32],
@@ -28,24 +29,21 @@ fn batch(
     h: usize,
     k: usize,
     len: usize,
-    forward: bool,
 )
     requires { Batchable h k len (length cells.now) (length twiddles.now) (length ahead.old) (length back.old) }
-    ensures { Batched (steps_of forward) h twiddles.now cells.now k len ahead.new back.new }
+    ensures { Batched D.steps h twiddles.now cells.now k len ahead.new back.new }
 {
-    let mut j = 0;
-    while j < len {
+    for j in 0..len {
         let a = get(cells, k + j);
         let b = get(cells, h - k - j);
         let t = get(twiddles, k + j - 1);
-        put(ahead, j, near(a, b, t, forward));
-        put(back, 31 - j, far(a, b, t, forward));
-        j += 1;
+        put(ahead, j, D::near(a, b, t));
+        put(back, 31 - j, D::far(a, b, t));
     }
 }
 
 // The same, put in their places of the other slice.
-fn step(
+fn step<D: Direction>(
     cells: &[f32],
     twiddles: &[f32],
     ahead: &mut [f32],
@@ -54,12 +52,11 @@ fn step(
     h: usize,
     k: usize,
     len: usize,
-    forward: bool,
 )
     requires { Batchable h k len (length cells.now) (length twiddles.now) (length ahead.old) (length back.old) × (length out.old ≡ 2 * (h + 1)) }
-    ensures { Stepped (steps_of forward) h twiddles.now cells.now out.old k → Stepped (steps_of forward) h twiddles.now cells.now out.new (k + len) }
+    ensures { Stepped D.steps h twiddles.now cells.now out.old k → Stepped D.steps h twiddles.now cells.now out.new (k + len) }
 {
-    batch(cells, twiddles, ahead, back, h, k, len, forward);
+    batch::<D>(cells, twiddles, ahead, back, h, k, len);
     let words = 2 * len;
     paste(&ahead[..words], out, 2 * k);
     let rest = 64 - words;
@@ -67,9 +64,9 @@ fn step(
 }
 
 // Every pair of cells k and h - k, one way, 32 pairs at a time; answers the number past the last.
-fn pairs(cells: &[f32], twiddles: &[f32], out: &mut [f32], h: usize, forward: bool) -> usize
+fn pairs<D: Direction>(cells: &[f32], twiddles: &[f32], out: &mut [f32], h: usize) -> usize
     requires { Endable h (length out.old) (length twiddles.now) × (2 * h ≤ length cells.now) }
-    ensures { (h ≤ 2 * result) × (result ≤ 4096) × (Stepped (steps_of forward) h twiddles.now cells.now out.old 1 → Stepped (steps_of forward) h twiddles.now cells.now out.new result) }
+    ensures { (h ≤ 2 * result) × (result ≤ 4096) × (Stepped D.steps h twiddles.now cells.now out.old 1 → Stepped D.steps h twiddles.now cells.now out.new result) }
 {
     let mut ahead = [0.0f32; 64];
     let mut back = [0.0f32; 64];
@@ -77,26 +74,24 @@ fn pairs(cells: &[f32], twiddles: &[f32], out: &mut [f32], h: usize, forward: bo
     let mut k = 1;
     while k < end {
         let left = end - k;
-        let len = if left < 32 { left } else { 32 };
-        step(
-            cells, twiddles, &mut ahead, &mut back, out, h, k, len, forward,
-        );
+        let len = left.min(32);
+        step::<D>(cells, twiddles, &mut ahead, &mut back, out, h, k, len);
         k += len;
     }
     k
 }
 
 // All h + 1 cells, one way, with y for cell h.
-fn end(cells: &[f32], y: Complex, twiddles: &[f32], out: &mut [f32], h: usize, forward: bool)
-    requires { Endable h (length out.old) (length twiddles.now) × (2 * h ≤ length cells.now) × EndsAs (steps_of forward) (cell cells.now 0) y (cell cells.now h) }
-    ensures { out.new ≡ ended (steps_of forward) h twiddles.now cells.now }
+fn end<D: Direction>(cells: &[f32], y: Complex, twiddles: &[f32], out: &mut [f32], h: usize)
+    requires { Endable h (length out.old) (length twiddles.now) × (2 * h ≤ length cells.now) × EndsAs D.steps (cell cells.now 0) y (cell cells.now h) }
+    ensures { out.new ≡ ended D.steps h twiddles.now cells.now }
 {
     let x = get(cells, 0);
-    put_both(out, 0, h, first(x, y, forward), last(x, y, forward));
-    let k = pairs(cells, twiddles, out, h, forward);
+    put_both(out, 0, h, D::first(x, y), D::last(x, y));
+    let k = pairs::<D>(cells, twiddles, out, h);
     if 2 * k == h {
         let c = get(cells, k);
-        put(out, k, centre(c, forward));
+        put(out, k, D::centre(c));
     }
 }
 
@@ -105,7 +100,7 @@ pub fn postprocess_fft(cells: &[f32], twiddles: &[f32], out: &mut [f32], h: usiz
     requires { Endable h (length out.old) (length twiddles.now) × (2 * h ≤ length cells.now) }
     ensures { out.new ≡ postprocess_fft h twiddles.now cells.now }
 {
-    end(cells, Complex { re: 0.0, im: 0.0 }, twiddles, out, h, true);
+    end::<Forward>(cells, Complex { re: 0.0, im: 0.0 }, twiddles, out, h);
 }
 
 // From h + 1 bins to the h complex inputs of the stages, conjugated; bin h stays in its cell.
@@ -113,5 +108,5 @@ pub fn preprocess_ifft(cells: &[f32], twiddles: &[f32], out: &mut [f32], h: usiz
     requires { Endable h (length out.old) (length twiddles.now) × (2 * (h + 1) ≤ length cells.now) }
     ensures { out.new ≡ prepared h twiddles.now cells.now }
 {
-    end(cells, get(cells, h), twiddles, out, h, false);
+    end::<Inverse>(cells, get(cells, h), twiddles, out, h);
 }

@@ -1,18 +1,17 @@
 -- `ends::inner::cells::end` meets its contract. Assumes nothing.
 use Rattle.sequences.proofs.Basics.{ap, ◌∙◌, arith}
 use Rattle.floats.specs.declared.complex.Complex.{Complex}
-use Rattle.mixing.specs.Parts.{steps_of}
 use Rattle.ends.proofs.Cells.{stepped_first, stepped_centre, stepped_all}
 use Rattle.ends.proofs.inner.cells.end.Goals as goal
 
 pub pairs-k-requires : goal.pairs-k-requires
-pairs-k-requires c = (
+pairs-k-requires g c = (
   record { some = c.requires.0.some; few = c.requires.0.few; long = c.put_both.auto.cells ∙ c.requires.0.long; lent = c.requires.0.lent },
   c.requires.1,
 )
 
 pub put-requires : goal.put-requires
-put-requires c = omega (
+put-requires g c = omega (
   arith,
   c.pairs-k.auto.out,
   c.put_both.auto.cells,
@@ -21,7 +20,7 @@ put-requires c = omega (
 )
 
 pub returns-then-k-h : goal.returns-then-k-h
-returns-then-k-h c = let a = c.args in let f = steps_of a.forward in let x = c.get-x.ensures in
+returns-then-k-h g c = let a = c.args in let f = g.D.Direction.steps in let x = c.get-x.ensures in
     -- after the pairs
     let stepped = c.pairs-k.ensures.2 (stepped_first f a.h a.twiddles.now a.cells.now c.requires.0.some a.out.now c.requires.0.long _ _ _
     (c.first.ensures ∙ ap (λ (z : Complex). f.first z a.y) x ∙ c.requires.2.first)
@@ -30,7 +29,7 @@ returns-then-k-h c = let a = c.args in let f = steps_of a.forward in let x = c.g
     c.if-k-h.true _ _ (c.centre.ensures ∙ ap f.centre c.get-c.ensures) c.put.ensures
 
 pub returns-else-k-h : goal.returns-else-k-h
-returns-else-k-h c = let a = c.args in let f = steps_of a.forward in let x = c.get-x.ensures in
+returns-else-k-h g c = let a = c.args in let f = g.D.Direction.steps in let x = c.get-x.ensures in
     let stepped = c.pairs-k.ensures.2 (stepped_first f a.h a.twiddles.now a.cells.now c.requires.0.some a.out.now c.requires.0.long _ _ _
     (c.first.ensures ∙ ap (λ (z : Complex). f.first z a.y) x ∙ c.requires.2.first)
     (c.last.ensures ∙ ap (λ (z : Complex). f.last z a.y) x ∙ c.requires.2.last) c.put_both.ensures) in

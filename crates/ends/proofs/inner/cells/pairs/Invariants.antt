@@ -1,13 +1,12 @@
 -- `ends::inner::cells::pairs` meets its contract. Assumes nothing.
 use Rattle.sequences.proofs.Basics.{◌≡◌, ◌-◌, ◌≤◌, ◌<◌, length}
-use Rattle.mixing.specs.Parts.{steps_of}
 use Rattle.ends.specs.Parts.{Stepped}
 use Rattle.ends.proofs.inner.cells.pairs.Given as goal
 
 abbrev pub invariant-loop-k : goal.invariant-loop-k
-invariant-loop-k l = ((0 < l.k) × (l.k ≤ 4096) × (length l.out ≡ length l.initial.out)
-    × (Stepped (steps_of l.forward) l.h l.twiddles l.cells l.initial.out 1 → Stepped (steps_of l.forward) l.h l.twiddles l.cells l.out l.k))
+invariant-loop-k g l = ((0 < l.k) × (l.k ≤ 4096) × (length l.out ≡ length l.initial.out)
+    × (Stepped g.D.Direction.steps l.h l.twiddles l.cells l.initial.out 1 → Stepped g.D.Direction.steps l.h l.twiddles l.cells l.out l.k))
     × (length l.ahead ≡ 64) × (length l.back ≡ 64)
 
 abbrev pub decreases-loop-k : goal.decreases-loop-k
-decreases-loop-k l = l.end - l.k
+decreases-loop-k g l = l.end - l.k
