@@ -1,8 +1,0 @@
--- `ends::inner::cells::batch` meets its contract. Assumes nothing.
-use Rattle.sequences.proofs.Basics.{◌≡◌, ◌-◌, ◌≤◌, length}
-use Rattle.ends.specs.Parts.{Batched}
-use Rattle.ends.proofs.inner.cells.batch.Given as goal
-
-abbrev pub invariant-loop-j : goal.invariant-loop-j
-invariant-loop-j g l = (length l.ahead ≡ length l.initial.ahead) × (length l.back ≡ length l.initial.back)
-    × Batched g.D.Direction.steps l.h l.twiddles l.cells l.k l.j l.ahead l.back
