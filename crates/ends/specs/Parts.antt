@@ -22,16 +22,14 @@ pub record EndsAs (s : Steps) (x y z : Complex) : Type 0 where
   pub first : s.first x y ≡ s.first x z
   pub last : s.last x y ≡ s.last x z
 
--- the pairs k to k + len are there in so many words of cells and nt words of twiddles, and both places for their results hold 32 cells
-pub record Batchable (h k len words nt na nb : ℕ) : Type 0 where
+-- the pairs k to k + len, of at most 32, are there in so many words of cells and nt words of twiddles
+pub record Batchable (h k len words nt : ℕ) : Type 0 where
   pub some : 0 < k
   pub few : h ≤ 4096
   pub short : len ≤ 32
   pub room : 2 * (k + len) < h + 2
   pub long : 2 * h ≤ words
   pub lent : (j : ℕ) → 2 * j < h → 2 * j ≤ nt
-  pub ahead : na ≡ 64
-  pub back : nb ≡ 64
 
 -- the n pairs from k on of the cells xs: the near cells in order, and the far ones from the last of 32 back
 pub record Batched (s : Steps) (h : ℕ) (tw xs : List Float) (k n : ℕ) (ahead back : List Float) : Type 0 where

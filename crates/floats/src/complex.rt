@@ -1,6 +1,7 @@
 // Complex numbers of two f32.
 ghost use Rattle.floats.specs.Complexes.{Adds, Subtracts, Multiplies, Conjugates, TurnsBy};
 
+use std::ops::{Add, Mul, Sub};
 use turn::Turn;
 
 // A real and an imaginary part.
@@ -10,35 +11,47 @@ pub struct Complex {
     pub im: f32,
 }
 
-impl Complex {
-    pub fn add(self, o: Complex) -> Complex
-        ensures { Adds self o result }
-    {
+impl Add for Complex {
+    type Output = Complex;
+
+    ghost add_gives = { Adds };
+
+    fn add(self, o: Complex) -> Complex {
         Complex {
             re: self.re + o.re,
             im: self.im + o.im,
         }
     }
+}
 
-    pub fn sub(self, o: Complex) -> Complex
-        ensures { Subtracts self o result }
-    {
+impl Sub for Complex {
+    type Output = Complex;
+
+    ghost sub_gives = { Subtracts };
+
+    fn sub(self, o: Complex) -> Complex {
         Complex {
             re: self.re - o.re,
             im: self.im - o.im,
         }
     }
+}
 
-    // In full.
-    pub fn mul(self, o: Complex) -> Complex
-        ensures { Multiplies self o result }
-    {
+// In full.
+impl Mul for Complex {
+    type Output = Complex;
+
+    ghost mul_gives = { Multiplies };
+
+    fn mul(self, o: Complex) -> Complex {
         Complex {
             re: self.re * o.re - self.im * o.im,
             im: self.re * o.im + self.im * o.re,
         }
     }
+}
 
+impl Complex {
     pub fn conj(self) -> Complex
         ensures { Conjugates self result }
     {
@@ -66,7 +79,7 @@ impl Complex {
                 re: -self.im,
                 im: self.re,
             },
-            Turn::General(c, s) => self.mul(Complex { re: c, im: s }),
+            Turn::General(c, s) => self * Complex { re: c, im: s },
         }
     }
 }

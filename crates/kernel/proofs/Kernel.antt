@@ -1,6 +1,6 @@
 -- What an iteration reads, the outputs of its kernel, and a radix written out. Assumes nothing.
 use Rattle.sequences.proofs.Basics.{◌≡◌, refl, ap, ap₂, ◌∙◌, ℕ, zero, suc, ◌+◌, ◌-◌, ◌*◌, ◌/◌, ◌%◌, ◌≤◌, ◌<◌, zero-add, arith, Bool, true, false, List, [], ◌∷◌}
-use Rattle.sequences.proofs.Basics.{inl, inr, eqb, get_or, digits_lt, ne_eqb}
+use Rattle.sequences.proofs.Basics.{inl, inr, eqb, get_or, digits_lt, ne_eqb, ℕ_discrete, length, set, get_or-set_same, get_or-set_other}
 use lib.Ieee.{Float}
 use Rattle.radices.specs.Lists.{is_radix}
 use Rattle.radices.proofs.Products.{Radix, radix_is}
@@ -38,16 +38,43 @@ total_next r x p q acc z sum t l ea et ez es = es ∙ ap (plus acc) (ez ∙ ap (
 -- ---- reading
 
 module _ (first : Bool) (M : ℕ) (src : List Float) (lent : ℕ → ℕ → Complex) (i : ℕ) where
-  pub read_plain : (q : ℕ) (x : Complex) → 0 < q → first ≡ true → x ≡ cell src (i + q * M) → x ≡ read_of first M src lent i q
+  pub read_plain : (q : ℕ) (x : Complex) → x ≡ cell src (i + q * M) → x ≡ read_of true M src lent i q
   unfolding read_of
-  read_plain zero x l e ex = absurd (omega arith)
-  read_plain (suc q) x l e ex = rw e ex
+  read_plain zero x ex = let e : i + 0 * M ≡ i = omega arith in ex ∙ ap (cell src) e
+  read_plain (suc q) x ex = ex
 
-  pub read_times : (q : ℕ) (x t y : Complex) → 0 < q → first ≡ false → x ≡ cell src (i + q * M) → t ≡ lent i q → y ≡ times x t → y ≡ read_of first M src
-      lent i q
+  -- a cell of the first stage, twiddled
+  pub read_twiddled : (q : ℕ) (x t y : Complex) → 0 < q → x ≡ read_of true M src lent i q → t ≡ lent i q → y ≡ times x t → y ≡ read_of false M src lent i q
   unfolding read_of
-  read_times zero x t y l e ex et ey = absurd (omega arith)
-  read_times (suc q) x t y l e ex et ey = rw e (ey ∙ ap₂ times ex et)
+  read_twiddled zero x t y l ex et ey = absurd (omega arith)
+  read_twiddled (suc q) x t y l ex et ey = ey ∙ ap₂ times ex et
+
+  -- the cells below q are twiddled, and those from q on are as in the first stage
+  abbrev pub Turned : (r : ℕ) → List Complex → ℕ → Type 0
+  Turned r c q = (k : ℕ) → k < r → (k < q → get_or c k blank ≡ read_of false M src lent i k) × (q ≤ k → get_or c k blank ≡ read_of true M src lent i k)
+
+  pub turned_none : (r : ℕ) (c : List Complex) → ((k : ℕ) → k < r → get_or c k blank ≡ read_of true M src lent i k) → Turned r c 1
+  unfolding read_of
+  turned_none r c e k l = (λ b. go k (e k l) b, λ b. e k l)
+    where
+      go : (k : ℕ) → get_or c k blank ≡ read_of true M src lent i k → k < 1 → get_or c k blank ≡ read_of false M src lent i k
+      go zero e b = e
+      go (suc k) e b = absurd (omega arith)
+
+  pub turned_next : (r : ℕ) (c : List Complex) (q : ℕ) (t y : Complex) → 0 < q → q < length c → q < r → t ≡ lent i q → y ≡ times (get_or c q blank) t
+      → Turned r c q → Turned r (set c q y) (q + 1)
+  turned_next r c q t y some room few et ey w k l = pick (ℕ_discrete k q)
+    where
+      pick : Dec (k ≡ q) → (k < q + 1 → get_or (set c q y) k blank ≡ read_of false M src lent i k)
+          × (q + 1 ≤ k → get_or (set c q y) k blank ≡ read_of true M src lent i k)
+      pick (yes e) = (
+        λ b. rw e (get_or-set_same c q y blank room ∙ read_twiddled q _ t y some ((w q few).1 (omega arith)) et ey),
+        λ b. absurd (omega arith),
+      )
+      pick (no n) = (
+        λ b. get_or-set_other c q k y blank n ∙ (w k l).0 (omega (arith, n)),
+        λ b. get_or-set_other c q k y blank n ∙ (w k l).1 (omega arith),
+      )
 
   -- the outputs of the cells read
   pub output_of_lem : (r : ℕ) (c : List Complex) → 0 < r → ((q : ℕ) → q < r → get_or c q blank ≡ read_of first M src lent i q)

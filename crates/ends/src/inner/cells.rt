@@ -2,13 +2,14 @@
 ghost use Rattle.std.specs.Prelude.{◌≡◌, length, ◌+◌, ◌*◌, ◌≤◌, ◌<◌};
 ghost use Rattle.ends.specs.Ends.{ended, postprocess_fft};
 ghost use Rattle.floats.specs.Complexes.{cell, put_cell};
-ghost use Rattle.mixing.specs.Parts.{steps_of};
 ghost use Rattle.ends.specs.Parts.{prepared, Endable, EndsAs, Batchable, Batched, Stepped};
 
 use floats::complex::Complex;
 use floats::inner::cells::{get, put};
 use floats::inner::words::paste;
-use mixing::inner::steps::{centre, far, first, last, near};
+use mixing::inner::forward::Forward;
+use mixing::inner::inverse::Inverse;
+use mixing::inner::steps::Direction;
 
 // Two cells, written.
 fn put_both(cells: &mut [f32], i: usize, j: usize, y: Complex, z: Complex)
@@ -19,84 +20,78 @@ fn put_both(cells: &mut [f32], i: usize, j: usize, y: Complex, z: Complex)
     put(cells, j, z);
 }
 
-// The pairs k to k + len, one way: their near cells to `ahead`, and their far cells to the end of `back`, the last pair's first.
-fn batch(
-    cells: &[f32],
-    twiddles: &[f32],
-    ahead: &mut [f32],
-    back: &mut [f32],
+// What the steps at the ends read: a row of cells, of which h are there at least, and the end twiddle of each pair.
+#[derive(Clone, Copy)]
+struct Row<'a> {
+    cells: &'a [f32],
+    twiddles: &'a [f32],
     h: usize,
-    k: usize,
-    len: usize,
-    forward: bool,
-)
-    requires { Batchable h k len (length cells.now) (length twiddles.now) (length ahead.old) (length back.old) }
-    ensures { Batched (steps_of forward) h twiddles.now cells.now k len ahead.new back.new }
-{
-    let mut j = 0;
-    while j < len {
-        let a = get(cells, k + j);
-        let b = get(cells, h - k - j);
-        let t = get(twiddles, k + j - 1);
-        put(ahead, j, near(a, b, t, forward));
-        put(back, 31 - j, far(a, b, t, forward));
-        j += 1;
+}
+
+// What at most 32 pairs become: the near cells in order, and the far ones from the last back.
+#[derive(Drop)]
+struct Made {
+    ahead: [f32; 64],
+    back: [f32; 64],
+}
+
+impl<'a> Row<'a> {
+    // The pairs k to k + len, one way.
+    fn batch<D: Direction>(self, made: &mut Made, k: usize, len: usize)
+        requires { Batchable self.h k len (length self.cells.now) (length self.twiddles.now) }
+        ensures { (length made.new.ahead ≡ 64) × (length made.new.back ≡ 64) × Batched D.steps self.entry.h self.entry.twiddles.now self.entry.cells.now k len made.new.ahead made.new.back }
+    {
+        for j in 0..len {
+            let a = get(self.cells, k + j);
+            let b = get(self.cells, self.h - k - j);
+            let t = get(self.twiddles, k + j - 1);
+            put(&mut made.ahead, j, D::near(a, b, t));
+            put(&mut made.back, 31 - j, D::far(a, b, t));
+        }
     }
-}
 
-// The same, put in their places of the other slice.
-fn step(
-    cells: &[f32],
-    twiddles: &[f32],
-    ahead: &mut [f32],
-    back: &mut [f32],
-    out: &mut [f32],
-    h: usize,
-    k: usize,
-    len: usize,
-    forward: bool,
-)
-    requires { Batchable h k len (length cells.now) (length twiddles.now) (length ahead.old) (length back.old) × (length out.old ≡ 2 * (h + 1)) }
-    ensures { Stepped (steps_of forward) h twiddles.now cells.now out.old k → Stepped (steps_of forward) h twiddles.now cells.now out.new (k + len) }
-{
-    batch(cells, twiddles, ahead, back, h, k, len, forward);
-    let words = 2 * len;
-    paste(&ahead[..words], out, 2 * k);
-    let rest = 64 - words;
-    paste(&back[rest..], out, 2 * (h - k - len + 1));
-}
-
-// Every pair of cells k and h - k, one way, 32 pairs at a time; answers the number past the last.
-fn pairs(cells: &[f32], twiddles: &[f32], out: &mut [f32], h: usize, forward: bool) -> usize
-    requires { Endable h (length out.old) (length twiddles.now) × (2 * h ≤ length cells.now) }
-    ensures { (h ≤ 2 * result) × (result ≤ 4096) × (Stepped (steps_of forward) h twiddles.now cells.now out.old 1 → Stepped (steps_of forward) h twiddles.now cells.now out.new result) }
-{
-    let mut ahead = [0.0f32; 64];
-    let mut back = [0.0f32; 64];
-    let end = (h + 1) / 2;
-    let mut k = 1;
-    while k < end {
-        let left = end - k;
-        let len = if left < 32 { left } else { 32 };
-        step(
-            cells, twiddles, &mut ahead, &mut back, out, h, k, len, forward,
-        );
-        k += len;
+    // The same, put in their places of the other slice.
+    fn step<D: Direction>(self, made: &mut Made, out: &mut [f32], k: usize, len: usize)
+        requires { Batchable self.h k len (length self.cells.now) (length self.twiddles.now) × (length out.old ≡ 2 * (self.h + 1)) }
+        ensures { Stepped D.steps self.entry.h self.entry.twiddles.now self.entry.cells.now out.old k → Stepped D.steps self.entry.h self.entry.twiddles.now self.entry.cells.now out.new (k + len) }
+    {
+        self.batch::<D>(made, k, len);
+        let words = 2 * len;
+        paste(&made.ahead[..words], out, 2 * k);
+        paste(&made.back[64 - words..], out, 2 * (self.h - k - len + 1));
     }
-    k
-}
 
-// All h + 1 cells, one way, with y for cell h.
-fn end(cells: &[f32], y: Complex, twiddles: &[f32], out: &mut [f32], h: usize, forward: bool)
-    requires { Endable h (length out.old) (length twiddles.now) × (2 * h ≤ length cells.now) × EndsAs (steps_of forward) (cell cells.now 0) y (cell cells.now h) }
-    ensures { out.new ≡ ended (steps_of forward) h twiddles.now cells.now }
-{
-    let x = get(cells, 0);
-    put_both(out, 0, h, first(x, y, forward), last(x, y, forward));
-    let k = pairs(cells, twiddles, out, h, forward);
-    if 2 * k == h {
-        let c = get(cells, k);
-        put(out, k, centre(c, forward));
+    // Every pair of cells k and h - k, one way, 32 pairs at a time; answers the number past the last.
+    fn pairs<D: Direction>(self, out: &mut [f32]) -> usize
+        requires { Endable self.h (length out.old) (length self.twiddles.now) × (2 * self.h ≤ length self.cells.now) }
+        ensures { (self.entry.h ≤ 2 * result) × (result ≤ 4096) × (Stepped D.steps self.entry.h self.entry.twiddles.now self.entry.cells.now out.old 1 → Stepped D.steps self.entry.h self.entry.twiddles.now self.entry.cells.now out.new result) }
+    {
+        let mut made = Made {
+            ahead: [0.0; 64],
+            back: [0.0; 64],
+        };
+        let end = (self.h + 1) / 2;
+        let mut k = 1;
+        while k < end {
+            let len = (end - k).min(32);
+            self.step::<D>(&mut made, out, k, len);
+            k += len;
+        }
+        k
+    }
+
+    // All h + 1 cells, one way, with y for cell h.
+    fn end<D: Direction>(self, y: Complex, out: &mut [f32])
+        requires { Endable self.h (length out.old) (length self.twiddles.now) × (2 * self.h ≤ length self.cells.now) × EndsAs D.steps (cell self.cells.now 0) y (cell self.cells.now self.h) }
+        ensures { out.new ≡ ended D.steps self.entry.h self.entry.twiddles.now self.entry.cells.now }
+    {
+        let x = get(self.cells, 0);
+        put_both(out, 0, self.h, D::first(x, y), D::last(x, y));
+        let k = self.pairs::<D>(out);
+        if 2 * k == self.h {
+            let c = get(self.cells, k);
+            put(out, k, D::centre(c));
+        }
     }
 }
 
@@ -105,7 +100,8 @@ pub fn postprocess_fft(cells: &[f32], twiddles: &[f32], out: &mut [f32], h: usiz
     requires { Endable h (length out.old) (length twiddles.now) × (2 * h ≤ length cells.now) }
     ensures { out.new ≡ postprocess_fft h twiddles.now cells.now }
 {
-    end(cells, Complex { re: 0.0, im: 0.0 }, twiddles, out, h, true);
+    let row = Row { cells, twiddles, h };
+    row.end::<Forward>(Complex { re: 0.0, im: 0.0 }, out);
 }
 
 // From h + 1 bins to the h complex inputs of the stages, conjugated; bin h stays in its cell.
@@ -113,5 +109,6 @@ pub fn preprocess_ifft(cells: &[f32], twiddles: &[f32], out: &mut [f32], h: usiz
     requires { Endable h (length out.old) (length twiddles.now) × (2 * (h + 1) ≤ length cells.now) }
     ensures { out.new ≡ prepared h twiddles.now cells.now }
 {
-    end(cells, get(cells, h), twiddles, out, h, false);
+    let row = Row { cells, twiddles, h };
+    row.end::<Inverse>(get(cells, h), out);
 }

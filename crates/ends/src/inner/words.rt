@@ -9,11 +9,9 @@ pub fn conjugate(cells: &mut [f32], h: usize)
     requires { (h ≤ 4096) × (length cells.old ≡ 2 * h) }
     ensures { cells.new ≡ conjugated h cells.old }
 {
-    let mut i = 0;
-    while i < h {
+    for i in 0..h {
         let z = get(cells, i);
         put(cells, i, z.conj());
-        i += 1;
     }
 }
 
@@ -21,9 +19,5 @@ pub fn conjugate(cells: &mut [f32], h: usize)
 pub fn clear(words: &mut [f32])
     ensures { words.new ≡ zeros (length words.old) }
 {
-    let mut i: usize = 0;
-    while i < words.len() {
-        words[i] = 0.0;
-        i += 1;
-    }
+    words.fill(0.0);
 }

@@ -7,9 +7,6 @@ pub fn paste(src: &[f32], dst: &mut [f32], at: usize)
     requires { at + length src.now ≤ length dst.old }
     ensures { dst.new ≡ pasted dst.old at src.now }
 {
-    let mut i: usize = 0;
-    while i < src.len() {
-        dst[at + i] = src[i];
-        i += 1;
-    }
+    let end = at + src.len();
+    dst[at..end].copy_from_slice(src);
 }

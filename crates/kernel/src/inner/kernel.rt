@@ -15,11 +15,8 @@ pub fn output(c: [Complex; 8], r: usize, p: usize) -> Complex
     ensures { result ≡ kernel_of r (λ q. get_or c q blank) p }
 {
     let mut acc = c[0];
-    let mut q = 1;
-    while q < r {
-        let z = c[q];
-        acc = acc.add(z.turned(kernel_turn(p * q % r, r)));
-        q += 1;
+    for q in 1..r {
+        acc = acc + c[q].turned(kernel_turn(p * q % r, r));
     }
     acc
 }
@@ -41,32 +38,34 @@ pub fn outputs(c: [Complex; 8], r: usize) -> [Complex; 8]
     ]
 }
 
-// What iteration i of m reads; its twiddles stand from j * a on in tw, b apart.
-pub fn cells(
+// What iteration i of m reads in the first stage.
+pub fn cells(src: &[f32], i: usize, m: usize, r: usize) -> [Complex; 8]
+    requires { Sized m r (length src.now) × (i < m) }
+    ensures { (lent : ℕ → ℕ → Complex) (q : ℕ) → q < r → get_or result q blank ≡ read_of true m src.now lent i q }
+{
+    let mut c = [get(src, i); 8];
+    for q in 1..r {
+        c[q] = get(src, i + q * m);
+    }
+    c
+}
+
+// What it reads in a later one; its twiddles stand from `at` on in tw, `apart` apart.
+pub fn twiddled(
     src: &[f32],
     tw: &[f32],
     i: usize,
-    j: usize,
-    a: usize,
-    b: usize,
     m: usize,
     r: usize,
-    first: bool,
+    at: usize,
+    apart: usize,
 ) -> [Complex; 8]
-    requires { Sized m r (length src.now) × (i < m) × (first ≡ false → (q : ℕ) → 0 < q → q < r → 2 * (j * a + (q - 1) * b) + 1 < length tw.now) }
-    ensures { (lent : ℕ → ℕ → Complex) → (first ≡ false → (q : ℕ) → 0 < q → q < r → cell tw.now (j * a + (q - 1) * b) ≡ lent i q) → (q : ℕ) → q < r → get_or result q blank ≡ read_of first m src.now lent i q }
+    requires { Sized m r (length src.now) × (i < m) × ((q : ℕ) → 0 < q → q < r → 2 * (at + (q - 1) * apart) + 1 < length tw.now) }
+    ensures { (lent : ℕ → ℕ → Complex) → ((q : ℕ) → 0 < q → q < r → cell tw.now (at + (q - 1) * apart) ≡ lent i q) → (q : ℕ) → q < r → get_or result q blank ≡ read_of false m src.now lent i q }
 {
-    let z = get(src, i);
-    let mut c = [z; 8];
-    let mut q = 1;
-    while q < r {
-        let x = get(src, i + q * m);
-        c[q] = if first {
-            x
-        } else {
-            x.mul(get(tw, j * a + (q - 1) * b))
-        };
-        q += 1;
+    let mut c = cells(src, i, m, r);
+    for q in 1..r {
+        c[q] = c[q] * get(tw, at + (q - 1) * apart);
     }
     c
 }

@@ -1,11 +1,7 @@
 -- `ends::inner::words::conjugate` meets its contract. Assumes nothing.
-use Rattle.sequences.proofs.Basics.{◌-◌, ◌≤◌}
 use Rattle.floats.specs.Complexes.{conjugate}
 use Rattle.ends.proofs.Cells.{Mapped}
 use Rattle.ends.proofs.inner.words.conjugate.Given as goal
 
 abbrev pub invariant-loop-i : goal.invariant-loop-i
-invariant-loop-i l = (l.i ≤ l.h) × Mapped conjugate l.initial.cells l.cells l.i
-
-abbrev pub decreases-loop-i : goal.decreases-loop-i
-decreases-loop-i l = l.h - l.i
+invariant-loop-i l = Mapped conjugate l.initial.cells l.cells l.i

@@ -1,5 +1,0 @@
--- `mixing::inner::pairs::fft_far` meets its contract. Assumes nothing.
-use Rattle.mixing.proofs.inner.pairs.fft_far.Goals as goal
-
-pub returns : goal.returns
-returns c = simp (c.mix-m.ensures, c.sub-d.ensures, c.add-s.ensures)

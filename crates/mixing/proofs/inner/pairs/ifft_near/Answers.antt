@@ -1,5 +1,0 @@
--- `mixing::inner::pairs::ifft_near` meets its contract. Assumes nothing.
-use Rattle.mixing.proofs.inner.pairs.ifft_near.Goals as goal
-
-pub returns : goal.returns
-returns c = simp (c.mix-m.ensures, c.sub-d.ensures, c.add-s.ensures)
