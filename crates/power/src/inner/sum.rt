@@ -10,11 +10,9 @@ pub fn sum(spectrum: &[f32], lo: usize, count: usize) -> f32
     ensures { result ≡ power_from spectrum.now lo count }
 {
     let mut sum: f32 = 0.0;
-    let mut k: usize = 0;
-    while k < count {
+    for k in 0..count {
         let z = get(spectrum, lo + k);
-        sum = sum + (z.re * z.re + z.im * z.im);
-        k += 1;
+        sum += z.re * z.re + z.im * z.im;
     }
     sum
 }

@@ -1,25 +1,16 @@
 // Which moduli, bases, lengths and remainders are taken.
-ghost use Rattle.std.specs.Prelude.{◌≡◌};
+ghost use Rattle.std.specs.Prelude.{◌≡◌, length};
+ghost use Rattle.sequences.specs.Found.{Found};
 ghost use Rattle.remainder.specs.Calls.{first_large, lent_verdict};
 
 use powers::inner::power::power;
 use refusal::{Refusal, Verdict};
 
-// The index of the first number not below m, or the length.
-fn first_large(list: &[u32], m: u32) -> usize
-    ensures { result ≡ first_large m list.now }
+// The index of the first number not below m.
+fn first_large(list: &[u32], m: u32) -> Option<usize>
+    ensures { Found (length list.now) (first_large m list.now) result }
 {
-    let mut i = 0;
-    let place = loop {
-        if i >= list.len() {
-            break list.len();
-        }
-        if list[i] >= m {
-            break i;
-        }
-        i += 1;
-    };
-    place
+    list.iter().position(|&x| x >= m)
 }
 
 // Refusals 11, 12, 8 and 13, in this order, of what is lent to a plan with that half.
@@ -41,8 +32,7 @@ pub fn lent(half: usize, m: u32, w: u32, input: &[u32], room: usize) -> Verdict
     if room != half {
         return Err(Refusal::Length(2));
     }
-    let large = first_large(input, m);
-    if large < input.len() {
+    if let Some(large) = first_large(input, m) {
         return Err(Refusal::Remainder(large));
     }
     Ok(())

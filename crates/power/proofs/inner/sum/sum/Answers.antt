@@ -6,20 +6,11 @@ use Rattle.power.proofs.inner.sum.sum.Goals as goal
 
 pub loop-k-init : goal.loop-k-init
 unfolding power_from
-loop-k-init c = (omega arith, refl)
-
-pub overflow_add-lo : goal.overflow_add-lo
-overflow_add-lo c = omega (arith, c.requires.0, c.requires.1, c.loop-k-test.true)
-
-pub get-z-requires : goal.get-z-requires
-get-z-requires c = omega (arith, c.requires.0, c.loop-k-test.true)
+loop-k-init c = refl
 
 pub loop-k-preserved : goal.loop-k-preserved
-loop-k-preserved c = let l = c.loop-k in let a = c.args in (
-  omega (arith, c.loop-k-test.true),
-  power_next a.spectrum.now a.lo l.k l.sum _ l.invariant.1 c.get-z.ensures,
-)
+loop-k-preserved c = let l = c.loop-k in let a = c.args in power_next a.spectrum.now a.lo l.k l.sum _ l.invariant c.get-z.ensures
 
 pub returns : goal.returns
-returns c = let l = c.loop-k in let a = c.args in let e : l.k ≡ a.count = omega (arith, l.invariant.0, c.loop-k-test.false) in
-    l.invariant.1 ∙ ap (power_from a.spectrum.now a.lo) e
+returns c = let l = c.loop-k in let a = c.args in let e : l.k ≡ a.count = omega (arith, l.auto.k-end, c.loop-k-test.false) in
+    l.invariant ∙ ap (power_from a.spectrum.now a.lo) e

@@ -1,10 +1,7 @@
 -- `power::inner::sum::sum` meets its contract. Assumes nothing.
-use Rattle.sequences.proofs.Basics.{◌≡◌, ◌-◌, ◌≤◌}
+use Rattle.sequences.proofs.Basics.{◌≡◌}
 use Rattle.power.specs.Power.{power_from}
 use Rattle.power.proofs.inner.sum.sum.Given as goal
 
 abbrev pub invariant-loop-k : goal.invariant-loop-k
-invariant-loop-k l = (l.k ≤ l.count) × (l.sum ≡ power_from l.spectrum l.lo l.k)
-
-abbrev pub decreases-loop-k : goal.decreases-loop-k
-decreases-loop-k l = l.count - l.k
+invariant-loop-k l = l.sum ≡ power_from l.spectrum l.lo l.k

@@ -24,10 +24,11 @@ pub returns-then-room-half : goal.returns-then-room-half
 unfolding lent_verdict
 returns-then-room-half c = let one = sym c.power.ensures ∙ c.if-power-ne1.false in search (deciding, one) depth 8
 
-pub returns-then-large-input : goal.returns-then-large-input
+pub returns-in-Some : goal.returns-in-Some
 unfolding lent_verdict
-returns-then-large-input c = let one = sym c.power.ensures ∙ c.if-power-ne1.false in search (deciding, one) depth 10
+returns-in-Some c = let one = sym c.power.ensures ∙ c.if-power-ne1.false in let large = c.in-Some.ensures in
+    search (deciding, one, large.0, large.1) depth 10
 
 pub returns : goal.returns
 unfolding lent_verdict
-returns c = let one = sym c.power.ensures ∙ c.if-power-ne1.false in search (deciding, one) depth 10
+returns c = let one = sym c.power.ensures ∙ c.if-power-ne1.false in let none = c.in_default.ensures in search (deciding, one, none) depth 10
