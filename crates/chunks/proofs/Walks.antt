@@ -5,6 +5,7 @@ use Rattle.refusal.specs.Refusal.{verdict}
 use Rattle.refusal.specs.declared.Refusal.{Refusal}
 use Rattle.fields.specs.Fields.{head_rows}
 use Rattle.chunks.specs.Chunks.{Walking, begun, stepped, on_by, walked, ended, walk_in, walk_of}
+use Rattle.chunks.specs.declared.inner.walk.Walk.{Walk}
 use Rattle.chunks.specs.declared.inner.walk.Walk.TheVariants.{Chunk, End}
 use Rattle.chunks.specs.declared.inner.walk.Samples.{Samples}
 use Rattle.fields.proofs.Told.{head_told, format_told, data_told, other_told}
@@ -31,6 +32,12 @@ step_within w at rate L = at_chunk (λ on. (at + 8 ≤ on) × (on ≤ L)) (λ on
 pub begun_within : (w : List ℕ) (L : ℕ) → Further 4 L (begun w L)
 unfolding begun
 begun_within w L = going_cases (Further 4 L) (verdict (head_rows w 0 L L)) (Ok (Chunk 12 None)) (λ e. (omega arith, head_told w L e)) (λ why e. tt)
+
+-- and where there is one the file has its mark
+pub begun_marked : (w : List ℕ) (L : ℕ) (walk : Walk) → begun w L ≡ Ok walk → 12 ≤ L
+unfolding begun
+begun_marked w L walk =
+    going_cases (λ r. r ≡ Ok walk → 12 ≤ L) (verdict (head_rows w 0 L L)) (Ok (Chunk 12 None)) (λ a e. head_told w L a) (λ why a e. absurd (cc e))
 
 -- a walk that has ended
 abbrev pub stands : Result Samples Refusal → Walking

@@ -1,7 +1,9 @@
 -- What the exported functions that are no planning answer, and what they leave in the buffers they are lent. Assumes nothing.
-use Rattle.std.specs.Prelude.{ℕ, ◌+◌, ◌-◌, ◌≡◌, List, Float, length}
-use Rattle.refusal.specs.Refusal.{number_in, place_in, left}
+use Rattle.std.specs.Prelude.{ℕ, ◌+◌, ◌-◌, ◌≡◌, List, Float, length, Result, Ok, Err}
+use Rattle.refusal.specs.Refusal.{number_of, place_of, number_in, place_in, left}
+use Rattle.refusal.specs.declared.Refusal.{Refusal}
 use Rattle.refusal.specs.Refusal.{Verdict}
+use Rattle.refusal.specs.Refusal.{Accepted}
 use Rattle.counts.specs.Counts.{result_in, buffer_number}
 use Rattle.plan.specs.declared.Record.{Record}
 use Rattle.schedule.specs.Buffers.{Two}
@@ -16,9 +18,8 @@ use Rattle.power.specs.Power.{power_from, power_verdict}
 use Rattle.transform.specs.Transforms.{forward_of, inverse_of, Slices as Buffers}
 use Rattle.hear.specs.Hear.{decision_number, hear_verdict, heard}
 use Rattle.hear.specs.declared.Heard.{Heard as Hearing}
-use Rattle.pcm.specs.Samples.{samples_at}
 use Rattle.chunks.specs.Chunks.{walk_of}
-use Rattle.wav.specs.Wav.{told, read_verdict, write_verdict, file_of}
+use Rattle.wav.specs.Wav.{told, read_verdict, samples_in, write_verdict, file_of}
 use Rattle.wav.specs.declared.Wav.{Wav as Found}
 use Rattle.residues.specs.Residues.{stage_of, run_of}
 use Rattle.remainder.specs.Calls.{stage_verdict, run_verdict}
@@ -104,21 +105,22 @@ pub record GivesHeard (p : Record) (W : ℕ) (stage end input : List Float) (lo 
 
 -- ---- recordings
 
--- what a recording answers, with its verdict as two numbers
+-- what a recording answers, with the refusal as two numbers, beside which stand 0 and 0
 abbrev pub wav_as : (number place rate samples : ℕ) → Wav
 wav_as n k rate samples = record { number = n; place = k; rate = rate; samples = samples }
 
-abbrev pub crossed_wav : Found → Wav
-crossed_wav w = wav_as (number_in w.verdict) (place_in w.verdict) w.rate w.samples
+abbrev pub crossed_wav : Result Found Refusal → Wav
+crossed_wav (Ok w) = wav_as 0 0 w.rate w.samples
+crossed_wav (Err why) = wav_as (number_of why) (place_of why) 0 0
 
 -- what `ladlespindle_wav_measure` promises of its answer r
 pub record GivesMeasured (file : List ℕ) (r : Wav) : Type 0 where
-  pub answer : r ≡ crossed_wav (told (walk_of file).verdict (walk_of file))
+  pub answer : r ≡ crossed_wav (told Accepted (walk_of file))
 
 -- what `ladlespindle_wav_read` promises of its answer r and of what is left in the output
 pub record GivesRead (file : List ℕ) (before : List Float) (r : Wav) (after : List Float) : Type 0 where
   pub answer : r ≡ crossed_wav (told (read_verdict file (length before)) (walk_of file))
-  pub cells : after ≡ left (read_verdict file (length before)) (samples_at file (walk_of file).at (walk_of file).samples) before
+  pub cells : after ≡ left (read_verdict file (length before)) (samples_in file (walk_of file)) before
 
 -- what `ladlespindle_wav_write` promises of its answer r and of what is left in the file
 abbrev pub GivesWritten : (rate : ℕ) (xs : List Float) (before : List ℕ) → Answer → (after : List ℕ) → Type 0

@@ -13,7 +13,7 @@ use counts::inner::stages::result_in;
 use merging::Merges;
 use plan::Record;
 use radices::Radices;
-use refusal::{Verdict, number, place};
+use refusal::{Refusal, Verdict, number, place};
 use scaling::Scaled;
 use turn::inner::words::Words;
 
@@ -102,6 +102,28 @@ impl From<Verdict> for Answer {
         Answer {
             number: number(verdict),
             place: place(verdict),
+        }
+    }
+}
+
+// What a recording answers, with the refusal as two numbers.
+impl From<Result<wav::Wav, Refusal>> for Wav {
+    ghost from_gives = { λ found wav. wav ≡ crossed_wav found };
+
+    fn from(found: Result<wav::Wav, Refusal>) -> Wav {
+        match found {
+            Ok(wav) => Wav {
+                number: 0,
+                place: 0,
+                rate: wav.rate,
+                samples: wav.samples,
+            },
+            Err(why) => Wav {
+                number: why.number(),
+                place: why.place(),
+                rate: 0,
+                samples: 0,
+            },
         }
     }
 }
@@ -467,7 +489,7 @@ pub extern "C" fn ladlespindle_hear(
 pub extern "C" fn ladlespindle_wav_measure(file: &[u8]) -> Wav
     ensures { GivesMeasured file.now result }
 {
-    as_numbers(wav::measure(file))
+    Wav::from(wav::measure(file))
 }
 
 // The samples of a recording.
@@ -475,7 +497,7 @@ pub extern "C" fn ladlespindle_wav_measure(file: &[u8]) -> Wav
 pub extern "C" fn ladlespindle_wav_read(file: &[u8], output: &mut [f32]) -> Wav
     ensures { GivesRead file.now output.old result output.new }
 {
-    as_numbers(wav::read(file, output))
+    Wav::from(wav::read(file, output))
 }
 
 // A recording of samples.
@@ -549,18 +571,6 @@ fn holder(verdict: Verdict, count: usize) -> u32
     match verdict {
         Ok(()) => result_in(count).number(),
         Err(_) => 0,
-    }
-}
-
-// What a recording answers, with the refusal as two numbers.
-fn as_numbers(found: wav::Wav) -> Wav
-    ensures { result ≡ crossed_wav found }
-{
-    Wav {
-        number: number(found.verdict),
-        place: place(found.verdict),
-        rate: found.rate,
-        samples: found.samples,
     }
 }
 

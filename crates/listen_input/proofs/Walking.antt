@@ -1,15 +1,18 @@
 -- Where a walk over chunks that goes on stands. Assumes nothing.
-use Rattle.sequences.proofs.Basics.{◌≡◌, sym, subst, ℕ, ◌≤◌, ◌<◌, arith, true, false, not, not-false, List}
-use Rattle.chunks.specs.Chunks.{begun, stepped}
+use Rattle.sequences.proofs.Basics.{◌≡◌, sym, ap, ◌∙◌, subst, ℕ, ◌≤◌, ◌<◌, arith, List}
+use Rattle.std.specs.Prelude.{Option, Ok}
+use Rattle.chunks.specs.Chunks.{Walking, begun, stepped}
 use Rattle.chunks.specs.declared.inner.walk.Walk.{Walk}
-use Rattle.chunks.proofs.Walks.{begun_within, step_further}
+use Rattle.chunks.specs.declared.inner.walk.Walk.TheVariants.{Chunk}
+use Rattle.chunks.proofs.Walks.{Further, begun_marked, step_further}
 
 -- behind the chunk that it was at, and within the file
-pub goes_on : (w : List ℕ) (at rate L : ℕ) {r : Walk} → r ≡ stepped w at rate L → not r.more ≡ false → (at < r.at) × (r.at ≤ L)
-goes_on w at rate L {r} e n =
-    subst (λ (x : Walk). x.more ≡ true → (at < x.at) × (x.at ≤ L)) (sym e)
-    (λ t. let f = step_further w at rate L t in (omega (arith, f.0), f.1)) (not-false r.more n)
+pub goes_on : (w : List ℕ) (at : ℕ) (rate : Option ℕ) (L on : ℕ) (next : Option ℕ) (walk : Walk) {r : Walking} → r ≡ stepped w at rate L
+    → r ≡ Ok walk → walk ≡ Chunk on next → (at < on) × (on ≤ L)
+goes_on w at rate L on next walk e f g =
+    let far : Further at L (Ok (Chunk on next)) = subst (Further at L) (sym e ∙ f ∙ ap (λ (x : Walk). Ok x) g) (step_further w at rate L) in
+    (omega (arith, far.0), far.1)
 
 -- at the start the file has its mark
-pub has_mark : (w : List ℕ) (L : ℕ) {r : Walk} → r ≡ begun w L → r.more ≡ true → 12 ≤ L
-has_mark w L e = subst (λ (x : Walk). x.more ≡ true → 12 ≤ L) (sym e) (λ t. let f = begun_within w L t in omega (arith, f.0, f.1))
+pub has_mark : (w : List ℕ) (L : ℕ) (walk : Walk) {r : Walking} → r ≡ begun w L → r ≡ Ok walk → 12 ≤ L
+has_mark w L walk e f = begun_marked w L walk (sym e ∙ f)

@@ -3,8 +3,9 @@ ghost use Rattle.std.specs.Prelude.{◌≡◌, ◌-◌, ◌≤◌, ◌<◌, min,
 
 use crate::inner::told::{fault, refused};
 use chunks::inner::walk::{Walk, begin, step};
+use fields::inner::view::View;
 use little::inner::numbers::four;
-use refusal::Verdict;
+use refusal::Refusal;
 use std::fs::File;
 use std::io;
 use std::io::{Read, Seek, SeekFrom, Stdin};
@@ -184,12 +185,13 @@ pub fn found(rt: &HostRuntime, source: &mut Source, is_stream: bool) -> Start {
     if size == 0 {
         total = length_of(&mark, got.count);
     }
-    let w = begin(&mark, total);
-    if w.more {
-        return walked(rt, source, total);
+    match begin(&mark, total) {
+        Ok(_) => walked(rt, source, total),
+        Err(why) => {
+            told(rt, why, 0, total);
+            nothing()
+        }
     }
-    told(rt, w, 0, total);
-    nothing()
 }
 
 // How long a stream is to be that began with so many bytes: what its RIFF size says, or what came where that is not 12 bytes.
@@ -208,7 +210,7 @@ fn walked(rt: &HostRuntime, source: &mut Source, total: usize) -> Start
     requires { 12 ≤ total }
 {
     let mut at: usize = 12;
-    let mut rate: u32 = 0;
+    let mut rate = None;
     loop {
         let mut window = [0u8; 24];
         let got = shown(source, &mut window, rate, total - at);
@@ -218,20 +220,42 @@ fn walked(rt: &HostRuntime, source: &mut Source, total: usize) -> Start
         if !got.whole {
             return ended(rt, at + got.count);
         }
-        let w = step(&window, at, rate, total);
-        if !w.more {
-            return at_samples(rt, w, at, total);
-        }
+        let chunk = View {
+            window: &window,
+            at,
+            total,
+        };
         let read = at + got.count;
-        let passed = skip(source, w.at - least(w.at, read));
+        match step(chunk, rate) {
+            Ok(
+                Walk::Chunk {
+                    at: next,
+                    rate: next_rate,
+                },
+            ) => {
+                at = next;
+                rate = next_rate;
+            }
+            Ok(Walk::End(samples)) => {
+                return Start {
+                    rate: samples.rate as usize,
+                    samples: samples.count,
+                    at: samples.at,
+                    total,
+                };
+            }
+            Err(why) => {
+                told(rt, why, at, total);
+                return nothing();
+            }
+        }
+        let passed = skip(source, at - least(at, read));
         if passed.failed {
             return unread(rt);
         }
         if !passed.whole {
             return ended(rt, read + passed.count);
         }
-        at = w.at;
-        rate = w.rate;
     }
 }
 
@@ -242,7 +266,7 @@ fn ended(rt: &HostRuntime, place: usize) -> Start {
 }
 
 // Reads what a chunk begins with, of which so many bytes are left: its name and size, and the fields of the first format.
-fn shown(source: &mut Source, window: &mut [u8], rate: u32, left: usize) -> Got
+fn shown(source: &mut Source, window: &mut [u8], rate: Option<u32>, left: usize) -> Got
     requires { length window.old ≡ 24 }
     ensures { (result.count ≤ 24) × (result.count ≤ left) }
 {
@@ -254,7 +278,7 @@ fn shown(source: &mut Source, window: &mut [u8], rate: u32, left: usize) -> Got
     if !got.whole {
         return got;
     }
-    if rate != 0 {
+    if rate.is_some() {
         return got;
     }
     if four(window, 0) != FORMAT {
@@ -269,28 +293,10 @@ fn shown(source: &mut Source, window: &mut [u8], rate: u32, left: usize) -> Got
     }
 }
 
-// Where the walk ended: the samples, or why there are none.
-fn at_samples(rt: &HostRuntime, w: Walk, at: usize, total: usize) -> Start {
-    let verdict = w.verdict;
-    match verdict {
-        Ok(()) => Start {
-            rate: w.rate as usize,
-            samples: w.samples,
-            at: w.at,
-            total,
-        },
-        Err(_) => {
-            told(rt, w, at, total);
-            nothing()
-        }
-    }
-}
-
 // Says why a file of so many bytes is refused, at the chunk that begins at a place.
-fn told(rt: &HostRuntime, w: Walk, at: usize, total: usize) {
-    let verdict = w.verdict;
-    let number = verdict.number() as usize;
-    let place = verdict.place();
+fn told(rt: &HostRuntime, why: Refusal, at: usize, total: usize) {
+    let number = why.number() as usize;
+    let place = why.place();
     if place >= total {
         refused(
             rt,

@@ -3,8 +3,8 @@ use Rattle.std.proofs.Common.{arith}
 use Rattle.listen_input.proofs.Walking.{goes_on}
 use Rattle.listen_input.proofs.inner.source.walked.Goals as goal
 
-pub loop-window-smaller : goal.loop-window-smaller
-loop-window-smaller c = omega (arith, goes_on _ _ _ _ c.step-w.ensures c.if-not-w.false)
+pub loop-rate-smaller : goal.loop-rate-smaller
+loop-rate-smaller c = let a = c.in-Ok-Chunk in omega (arith, goes_on _ _ _ _ a.next a.next_rate _ c.step.ensures a.is a.field-0-is)
 
-pub loop-window-preserved : goal.loop-window-preserved
-loop-window-preserved c = (goes_on _ _ _ _ c.step-w.ensures c.if-not-w.false).1
+pub loop-rate-preserved : goal.loop-rate-preserved
+loop-rate-preserved c = let a = c.in-Ok-Chunk in (goes_on _ _ _ _ a.next a.next_rate _ c.step.ensures a.is a.field-0-is).1

@@ -2,8 +2,8 @@
 use Rattle.std.proofs.Common.{◌≤◌, ◌-◌}
 use Rattle.listen_input.proofs.inner.source.walked.Given as goal
 
-abbrev pub invariant-loop-window : goal.invariant-loop-window
-invariant-loop-window l = l.at ≤ l.total
+abbrev pub invariant-loop-rate : goal.invariant-loop-rate
+invariant-loop-rate l = l.at ≤ l.total
 
-abbrev pub decreases-loop-window : goal.decreases-loop-window
-decreases-loop-window l = l.total - l.at
+abbrev pub decreases-loop-rate : goal.decreases-loop-rate
+decreases-loop-rate l = l.total - l.at
