@@ -74,13 +74,7 @@ pub fn gather(spectrum: &[f32], sums: &mut [f64]) {
     if spectrum.len() > 8194 {
         return;
     }
-    let mut n = spectrum.len() / 2;
-    if sums.len() < n {
-        n = sums.len();
-    }
-    let mut k: usize = 0;
-    while k < n {
-        sums[k] = sums[k] + std::num::f32_to_f64_with_nan(sum(spectrum, k, 1));
-        k += 1;
+    for k in 0..sums.len().min(spectrum.len() / 2) {
+        sums[k] += std::num::f32_to_f64_with_nan(sum(spectrum, k, 1));
     }
 }

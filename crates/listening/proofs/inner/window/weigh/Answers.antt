@@ -13,5 +13,5 @@ returns c =
     let l = c.loop-i in
     let weights = c.args.weights.now in
     let ends : (length l.samples ≤ l.i) ⊎ (length weights ≤ l.i) = dite (dec_le (length l.samples) (length weights)) (λ few. inl (omega arith))
-        (λ many. inr (omega arith)) in
+    (λ many. inr (omega arith)) in
     weighed_all l.samples weights l.i ends ∙ l.invariant
