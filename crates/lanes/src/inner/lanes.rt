@@ -4,7 +4,7 @@ ghost use Rattle.std.specs.Prelude.{◌≡◌, true, false, ℕ, ◌+◌, ◌-�
 ghost use Rattle.radices.specs.Lists.{is_radix};
 ghost use Rattle.schedule.specs.Parts.{Every};
 ghost use Rattle.floats.specs.Complexes.{blank, cell};
-ghost use Rattle.kernel.specs.Parts.{kernel_of, output_of, Sized};
+ghost use Rattle.kernel.specs.Parts.{kernel_of, output_of, read_of, Sized};
 ghost use Rattle.lanes.specs.Parts.{slot, rows_lent, Lent, Taken, Saved, Pairs, Paired};
 
 use floats::complex::Complex;
@@ -34,26 +34,23 @@ fn save(c: [Complex; 8], re: &mut [f32], im: &mut [f32], j: usize, r: usize)
     every_second(c, re, im, j, r, 1);
 }
 
-// Iteration i + j, of the lane j.
-fn lane<const N: usize>(
+// What iteration i reads, of lane j.
+fn read<const N: usize>(
     src: &[f32],
     tw: &[f32],
-    re: &mut [f32],
-    im: &mut [f32],
     i: usize,
     m: usize,
     j: usize,
     r: usize,
-)
-    requires { Sized m r (length src.now) × (i + j < m) × (j < 16) × ((q : ℕ) → 0 < q → q < r → 2 * slot N r j q + 1 < length tw.now) × (length re.old ≡ 128) × (length im.old ≡ 128) }
-    ensures { (lent : ℕ → ℕ → Complex) → ((q : ℕ) → 0 < q → q < r → cell tw.now (slot N r j q) ≡ lent (i + j) q) → Saved (output_of false m r src.now lent (i + j)) j r re.old im.old re.new im.new }
+) -> [Complex; 8]
+    requires { Sized m r (length src.now) × (i < m) × (j < 16) × ((q : ℕ) → 0 < q → q < r → 2 * slot N r j q + 1 < length tw.now) }
+    ensures { (lent : ℕ → ℕ → Complex) → ((q : ℕ) → 0 < q → q < r → cell tw.now (slot N r j q) ≡ lent i q) → (q : ℕ) → q < r → get_or result q blank ≡ read_of false m src.now lent i q }
 {
-    let c = if N == 4 {
-        twiddled(src, tw, i + j, m, r, j, 4)
+    if N == 4 {
+        twiddled(src, tw, i, m, r, j, 4)
     } else {
-        twiddled(src, tw, i + j, m, r, j * (r - 1), 1)
-    };
-    save(c, re, im, j, r);
+        twiddled(src, tw, i, m, r, j * (r - 1), 1)
+    }
 }
 
 // Iterations i to i + len, to the lanes, each radix of a later stage written out: those below 7 to one pair of arrays, the others to another.
@@ -73,12 +70,13 @@ pub fn lanes<const N: usize>(
     ensures { Pairs ra.new ia.new rb.new ib.new × ((lent : ℕ → ℕ → Complex) → Lent N i len r lent tw.now → Paired i len r (output_of false m r src.now lent) ra.new ia.new rb.new ib.new) }
 {
     for j in 0..len {
+        let k = i + j;
         match r {
-            3 => lane::<N>(src, tw, ra, ia, i, m, j, 3),
-            4 => lane::<N>(src, tw, ra, ia, i, m, j, 4),
-            5 => lane::<N>(src, tw, ra, ia, i, m, j, 5),
-            7 => lane::<N>(src, tw, rb, ib, i, m, j, 7),
-            _ => lane::<N>(src, tw, rb, ib, i, m, j, 8),
+            3 => save(read::<N>(src, tw, k, m, j, 3), ra, ia, j, 3),
+            4 => save(read::<N>(src, tw, k, m, j, 4), ra, ia, j, 4),
+            5 => save(read::<N>(src, tw, k, m, j, 5), ra, ia, j, 5),
+            7 => save(read::<N>(src, tw, k, m, j, 7), rb, ib, j, 7),
+            _ => save(read::<N>(src, tw, k, m, j, 8), rb, ib, j, 8),
         }
     }
 }
