@@ -1,93 +1,60 @@
--- A kernel with its radix ρ written out does what a stage of radix r does, where r is ρ.
+-- A lane with its radix ρ written out does what a stage of radix r does, where r is ρ.
 -- Assumes nothing.
-use Rattle.sequences.proofs.Basics.{◌≡◌, ap, ◌∙◌, ℕ, ◌+◌, ◌-◌, ◌*◌, ◌≤◌, ◌<◌, mul-one, mul-le-mul_right, suc-mul, arith, false, List, length, get_or}
+use Rattle.sequences.proofs.Basics.{◌≡◌, ℕ, ◌+◌, ◌-◌, ◌*◌, ◌≤◌, ◌<◌, mul-le-mul_right, suc-mul, arith, false, List, ℕ_discrete, eq-eqb, ne_eqb, get_or}
 use lib.Ieee.{Float}
 use Rattle.floats.specs.declared.complex.Complex.{Complex}
 use Rattle.floats.specs.Complexes.{blank, cell}
 use Rattle.kernel.specs.Parts.{kernel_of, read_of, output_of, Sized}
-use Rattle.lanes.specs.Parts.{Fetched, Held, Saved, Pairs, Paired}
+use Rattle.lanes.specs.Parts.{slot, rows_lent, Lent, Held, Saved, Paired}
 use Rattle.lanes.proofs.Writes.{saved_as, held_step}
-use Rattle.kernel.proofs.Kernel.{output_of_lem, eight, sized_at}
+use Rattle.kernel.proofs.Kernel.{output_of_lem, eight}
 
 -- what is left of the radices of a later stage, as a match leaves it
 pub later_other : {M r ns : ℕ} {u : Type 0} → Sized M r ns → 3 ≤ r → (((u × (r ≡ 3 → ⊥)) × (r ≡ 4 → ⊥)) × (r ≡ 5 → ⊥)) × (r ≡ 7 → ⊥) → r ≡ 8
 later_other h l k = eight h.radix (λ e. omega arith) k.0.0.0.1 k.0.0.1 k.0.1 k.1
 
--- the twiddles of lane j, as its arm reads them
-pub fetched_at : (i n r j : ℕ) (t : List Float) → j < n → (lent : ℕ → ℕ → Complex) → Fetched i n r lent t → (q : ℕ) → 0 < q → q < r
-    → cell t (j * (r - 1) + (q - 1) * 1) ≡ lent (i + j) q
-fetched_at i n r j t lj lent f q l lq = rw (mul-one (q - 1)) (f j q lj l lq)
+-- the twiddles of lane j have room
+pub slot_room : (N r j len n : ℕ) → j < len → len ≤ N → 2 * (rows_lent N len * (r - 1)) ≤ n → (q : ℕ) → 0 < q → q < r → 2 * slot N r j q + 1 < n
+slot_room N r j len n l few room q lq lq' = pick (ℕ_discrete N 4)
+  where
+    pick : Dec (N ≡ 4) → 2 * slot N r j q + 1 < n
+    pick (yes e) =
+        let here : 2 * (4 * (r - 1)) ≤ n = rw (eq-eqb N 4 e) at room in
+        rw (eq-eqb N 4 e) (omega (arith, e))
+    pick (no d) =
+        let here : 2 * (len * (r - 1)) ≤ n = rw (ne_eqb N 4 d) at room in
+        rw (ne_eqb N 4 d) (omega (arith, mul-le-mul_right (r - 1) l, suc-mul j (r - 1)))
 
--- .. have room
-lane_room : (j r len n : ℕ) → j < len → 2 * (len * (r - 1)) ≤ n → (q : ℕ) → 0 < q → q < r → 2 * (j * (r - 1) + (q - 1) * 1) + 1 < n
-lane_room j r len n l room q lq lq' = omega (arith, mul-le-mul_right (r - 1) l, suc-mul j (r - 1))
+-- the lanes below j hold the outputs of the iterations from i on, wherever their twiddles are lent
+abbrev pub Kept : (N i len j M r : ℕ) → (src tw ra ia rb ib : List Float) → Type 0
+Kept N i len j M r src tw ra ia rb ib = (lent : ℕ → ℕ → Complex) → Lent N i len r lent tw → Paired i j r (output_of false M r src lent) ra ia rb ib
 
--- what an arm asks for to read its cells
-pub lane_asks : {M r ns len nt : ℕ} {ra ia rb ib : List Float} (i j : ℕ)
-    → Sized M r ns × (i + len ≤ M) × (len ≤ 16) × (2 * (len * (r - 1)) ≤ nt) × Pairs ra ia rb ib × (3 ≤ r)
-    → (ρ : ℕ) → r ≡ ρ → j < len → Sized M ρ ns × (i + j < M) × (false ≡ false → (q : ℕ) → 0 < q → q < ρ → 2 * (j * (ρ - 1) + (q - 1) * 1) + 1 < nt)
-lane_asks {r = r} {len = len} {nt = nt} i j pre ρ e lj = (sized_at ρ e pre.0, omega arith, λ f. rw e at (lane_room j r len nt lj pre.3))
+pub kept_none : (N i len M r : ℕ) (src tw ra ia rb ib : List Float) → Kept N i len 0 M r src tw ra ia rb ib
+kept_none N i len M r src tw ra ia rb ib lent f = (λ x j p lj lp. absurd (omega arith), λ x j p lj lp. absurd (omega arith))
 
-pub four_asks : {M r ns len nt : ℕ} {ra ia rb ib : List Float} (i j : ℕ)
-    → Sized M r ns × (i + len ≤ M) × (len ≤ 4) × (2 * (4 * (r - 1)) ≤ nt) × Pairs ra ia rb ib × (3 ≤ r)
-    → (ρ : ℕ) → r ≡ ρ → j < len → Sized M ρ ns × (i + j < M) × (false ≡ false → (q : ℕ) → 0 < q → q < ρ → 2 * (j * 1 + (q - 1) * 4) + 1 < nt)
-four_asks i j pre ρ e lj = (sized_at ρ e pre.0, omega arith, λ f q l lq. omega (arith, pre.3, e))
+module _ (N i len j M r : ℕ) (src tw ra ia rb ib : List Float) (before : Kept N i len j M r src tw ra ia rb ib) (lj : j < len) (few : j < 16)
+    (ρ : ℕ) (e : r ≡ ρ) where
+  -- what iteration i + j reads with radix ρ written out
+  abbrev Reads : List Complex → Type 0
+  Reads c =
+      (lent : ℕ → ℕ → Complex) → ((q : ℕ) → 0 < q → q < ρ → cell tw (slot N ρ j q) ≡ lent (i + j) q)
+      → (q : ℕ) → q < ρ → get_or c q blank ≡ read_of false M src lent (i + j) q
 
--- ---- two pairs of lists, of which radices below 7 take the first; F tells the twiddles lent
+  -- .. and its outputs in lane j
+  abbrev Does : List Complex → (re₀ im₀ re im : List Float) → Type 0
+  Does c re₀ im₀ re im = Reads c × Saved (kernel_of ρ (λ q. get_or c q blank)) j ρ re₀ im₀ re im
 
--- the lanes below j hold the outputs of the iterations from i on
-pub record Kept (F : (ℕ → ℕ → Complex) → Type 0) (i j M r : ℕ) (src ra ia rb ib : List Float) : Type 0 where
-  pub pairs : Pairs ra ia rb ib
-  pub held : (lent : ℕ → ℕ → Complex) → F lent → Paired i j r (output_of false M r src lent) ra ia rb ib
+  mine : (lent : ℕ → ℕ → Complex) → Lent N i len r lent tw → (q : ℕ) → 0 < q → q < r → cell tw (slot N r j q) ≡ lent (i + j) q
+  mine lent f q l lq = f j q lj l lq
 
-module _ {F : (ℕ → ℕ → Complex) → Type 0} {i M r : ℕ} {src ra ia rb ib : List Float} where
-  pub kept_none : Pairs ra ia rb ib → Kept F i 0 M r src ra ia rb ib
-  kept_none pairs = record { pairs = pairs; held = λ lent f. (λ x j p lj lp. absurd (omega arith), λ x j p lj lp. absurd (omega arith)) }
+  step : (lent : ℕ → ℕ → Complex) → Lent N i len r lent tw → (c : List Complex) → 0 < ρ → {re₀ im₀ re im re' im' : List Float} → Does c re₀ im₀ re im → re' ≡ re → im' ≡ im
+      → Held i j r (output_of false M r src lent) re₀ im₀ → Held i (j + 1) r (output_of false M r src lent) re' im'
+  step lent f c some {re₀} {im₀} {re' = re'} {im'} w er ei = held_step i j r (output_of false M r src lent) re₀ im₀ re' im' few
+      (rw (er, ei, e) (saved_as _ _ _ _ (output_of false M ρ src lent (i + j))
+      (λ p l. output_of_lem false M src lent (i + j) ρ c some (w.0 lent (rw e at (mine lent f))) p) w.1))
 
-  module _ {j : ℕ} (before : Kept F i j M r src ra ia rb ib) where
-    pub kept_all : (len : ℕ) → len ≤ j
-        → Pairs ra ia rb ib × ((lent : ℕ → ℕ → Complex) → F lent → Paired i len r (output_of false M r src lent) ra ia rb ib)
-    kept_all len l = (
-      before.pairs,
-      λ lent f. (λ x j p lj lp. (before.held lent f).0 x j p (omega arith) lp, λ x j p lj lp. (before.held lent f).1 x j p (omega arith) lp),
-    )
+  pub low_arm : (c : List Complex) (re im ra' ia' rb' ib' : List Float) → 0 < ρ → ρ < 7 → Does c ra ia re im → ra' ≡ re → ia' ≡ im → Kept N i len (j + 1) M r src tw ra' ia' rb' ib'
+  low_arm c re im ra' ia' rb' ib' some low w er ei lent f = (λ x. step lent f c some w er ei ((before lent f).0 x), λ x. absurd (omega (arith, e)))
 
-    -- an arm with radix ρ written out, on the cells c, whose twiddles stand from j * a ρ on, b apart
-    module _ (a : ℕ → ℕ) (b : ℕ) (tw : List Float) (few : j < 16)
-        (at : (lent : ℕ → ℕ → Complex) → F lent → (q : ℕ) → 0 < q → q < r → cell tw (j * a r + (q - 1) * b) ≡ lent (i + j) q) (later : 3 ≤ r)
-        (ρ : ℕ) (e : r ≡ ρ) (c : List Complex)
-        (reads : (lent : ℕ → ℕ → Complex) → (false ≡ false → (q : ℕ) → 0 < q → q < ρ → cell tw (j * a ρ + (q - 1) * b) ≡ lent (i + j) q)
-        → (q : ℕ) → q < ρ → get_or c q blank ≡ read_of false M src lent (i + j) q) (re im : List Float) where
-      step : (lent : ℕ → ℕ → Complex) → F lent → {re₀ im₀ re' im' : List Float} → Saved (kernel_of ρ (λ q. get_or c q blank)) j ρ re₀ im₀ re im → re' ≡ re
-          → im' ≡ im → Held i j r (output_of false M r src lent) re₀ im₀ → Held i (j + 1) r (output_of false M r src lent) re' im'
-      step lent f {re₀} {im₀} {re'} {im'} w er ei = held_step i j r (output_of false M r src lent) re₀ im₀ re' im' few
-          (rw (er, ei, e) (saved_as _ _ _ _ (output_of false M ρ src lent (i + j))
-          (λ p l. output_of_lem false M src lent (i + j) ρ c (omega (arith, e)) (reads lent (λ g. rw e at (at lent f))) p) w))
-
-      pub low_arm : (ra' ia' rb' ib' : List Float) → ρ < 7 → Saved (kernel_of ρ (λ q. get_or c q blank)) j ρ ra ia re im → ra' ≡ re → ia' ≡ im → rb' ≡ rb
-          → ib' ≡ ib → Kept F i (j + 1) M r src ra' ia' rb' ib'
-      low_arm ra' ia' rb' ib' low w er ei same-r same-i =
-          record {
-            pairs =
-                record {
-                  size_ra = ap length er ∙ w.size_re ∙ before.pairs.size_ra;
-                  size_ia = ap length ei ∙ w.size_im ∙ before.pairs.size_ia;
-                  size_rb = ap length same-r ∙ before.pairs.size_rb;
-                  size_ib = ap length same-i ∙ before.pairs.size_ib;
-                };
-            held = λ lent f. (λ x. step lent f w er ei ((before.held lent f).0 x), λ x. absurd (omega (arith, e)));
-          }
-
-      pub high_arm : (ra' ia' rb' ib' : List Float) → 7 ≤ ρ → Saved (kernel_of ρ (λ q. get_or c q blank)) j ρ rb ib re im → ra' ≡ ra → ia' ≡ ia → rb' ≡ re
-          → ib' ≡ im → Kept F i (j + 1) M r src ra' ia' rb' ib'
-      high_arm ra' ia' rb' ib' high w same-r same-i er ei =
-          record {
-            pairs =
-                record {
-                  size_ra = ap length same-r ∙ before.pairs.size_ra;
-                  size_ia = ap length same-i ∙ before.pairs.size_ia;
-                  size_rb = ap length er ∙ w.size_re ∙ before.pairs.size_rb;
-                  size_ib = ap length ei ∙ w.size_im ∙ before.pairs.size_ib;
-                };
-            held = λ lent f. (λ x. absurd (omega (arith, e)), λ x. step lent f w er ei ((before.held lent f).1 x));
-          }
+  pub high_arm : (c : List Complex) (re im ra' ia' rb' ib' : List Float) → 0 < ρ → 7 ≤ ρ → Does c rb ib re im → rb' ≡ re → ib' ≡ im → Kept N i len (j + 1) M r src tw ra' ia' rb' ib'
+  high_arm c re im ra' ia' rb' ib' some high w er ei lent f = (λ x. absurd (omega (arith, e)), λ x. step lent f c some w er ei ((before lent f).1 x))

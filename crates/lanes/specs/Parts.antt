@@ -1,5 +1,5 @@
 -- Sixteen iterations in lanes: the twiddles they are lent, and what the lanes hold. Assumes nothing.
-use Rattle.std.specs.Prelude.{◌≡◌, List, ℕ, ◌+◌, ◌-◌, ◌*◌, ◌<◌, ◌≤◌, length, get_or, Float}
+use Rattle.std.specs.Prelude.{◌≡◌, List, ℕ, ◌+◌, ◌-◌, ◌*◌, ◌<◌, ◌≤◌, length, get_or, cond, eqb, Float}
 use Rattle.std.specs.Float.{nan}
 use Rattle.schedule.specs.Parts as Loop
 use Rattle.floats.specs.declared.complex.Complex.{Complex}
@@ -14,6 +14,18 @@ Fetched i n r lent t = (j q : ℕ) → j < n → 0 < q → q < r → cell t (j *
 -- .. as packed for width 4
 abbrev pub Fetched4 : (i n r : ℕ) → (lent : ℕ → ℕ → Complex) → List Float → Type 0
 Fetched4 i n r lent t = (j q : ℕ) → j < n → 0 < q → q < r → cell t (j * 1 + (q - 1) * 4) ≡ lent (i + j) q
+
+-- where twiddle q of lane j stands: as packed for width 4 where at most 4 iterations are taken at a time, and else one iteration after the other
+abbrev pub slot : (N r j q : ℕ) → ℕ
+slot N r j q = cond (eqb N 4) (j * 1 + (q - 1) * 4) (j * (r - 1) + (q - 1))
+
+-- of how many iterations the twiddles are there
+abbrev pub rows_lent : (N len : ℕ) → ℕ
+rows_lent N len = cond (eqb N 4) 4 len
+
+-- t has the twiddles of the n iterations from i on, in either way
+abbrev pub Lent : (N i n r : ℕ) → (lent : ℕ → ℕ → Complex) → List Float → Type 0
+Lent N i n r lent t = (j q : ℕ) → j < n → 0 < q → q < r → cell t (slot N r j q) ≡ lent (i + j) q
 
 -- ---- lanes: output p of lane j stands at 16 * p + j of two lists of 128
 

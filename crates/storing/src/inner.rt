@@ -1,3 +1,2 @@
 // What other crates call under a proof, and the parts of it.
-pub mod fours;
 pub mod storing;

@@ -22,11 +22,8 @@ fn gather(tw: &[f32], t: &mut [f32], at: usize, from: usize, n: usize, step: usi
     requires { (2 * (at + n) ≤ length t.old) × ((u : ℕ) → u < n → 2 * (from + u * step) + 1 < length tw.now) }
     ensures { Wrote (λ u. cell tw.now (from + u * step)) at n t.old t.new }
 {
-    let mut u = 0;
-    while u < n {
-        let z = get(tw, from + u * step);
-        put(t, at + u, z);
-        u += 1;
+    for u in 0..n {
+        put(t, at + u, get(tw, from + u * step));
     }
 }
 
@@ -61,10 +58,8 @@ pub fn fetch(
     match layout {
         Layout::Beside => {}
         Layout::Apart => {
-            let mut j = 0;
-            while j < len {
+            for j in 0..len {
                 fetch_one(tw, t, j, i + j, m, r, w);
-                j += 1;
             }
         }
     }

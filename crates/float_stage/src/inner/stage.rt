@@ -10,21 +10,19 @@ ghost use Rattle.float_stage.specs.Parts.{Lending, Workable};
 use crate::inner::first::first;
 use crate::inner::lent::{Layout, fetch, first_word, laid_out, lent};
 use counts::inner::stages::stride;
-use lanes::inner::fours::lanes4;
 use lanes::inner::lanes::lanes;
 use plan::Record;
-use storing::inner::fours::store4;
-use storing::inner::storing::{Place, evenly, least, store};
+use storing::inner::storing::{Place, evenly, store};
 
 // The first stage of radix r, of m iterations.
-fn first_stage(src: &[f32], tw: &[f32], dst: &mut [f32], m: usize, r: usize)
+fn first_stage(src: &[f32], dst: &mut [f32], m: usize, r: usize)
     requires { Sized m r (length src.now) × (2 * (m * r) ≤ length dst.old) }
     ensures { (lent : ℕ → ℕ → Complex) → Done 1 r (output_of true m r src.now lent) dst.new m }
 {
     let mut i = 0;
     while i < m {
-        let len = least(m - i, 4096);
-        first(src, tw, dst, i, m, len, r);
+        let len = (m - i).min(4096);
+        first(src, dst, i, m, len, r);
         i += len;
     }
 }
@@ -57,8 +55,8 @@ fn by_fours(
     let mut at = Place { block: 0, col: 0 };
     let mut i = 0;
     while i < end {
-        let len = least(end - i, 4);
-        lanes4(
+        let len = (end - i).min(4);
+        lanes::<4>(
             src,
             lent(tw, tw, Layout::Beside, first_word(i, r)),
             &mut ra,
@@ -70,7 +68,7 @@ fn by_fours(
             len,
             r,
         );
-        at = store4(&ra, &ia, &rb, &ib, dst, at, i, m, len, s, r, even);
+        at = store::<4>(&ra, &ia, &rb, &ib, dst, at, i, m, len, s, r, even);
         i += len;
     }
     at
@@ -101,9 +99,9 @@ fn by_sixteens(
     let mut at = start;
     let mut i = end;
     while i < m {
-        let len = least(m - i, 16);
+        let len = (m - i).min(16);
         fetch(tw, &mut t, i, m, len, r, w, layout);
-        lanes(
+        lanes::<16>(
             src,
             lent(tw, &t, layout, first_word(i, r)),
             &mut ra,
@@ -115,7 +113,7 @@ fn by_sixteens(
             len,
             r,
         );
-        at = store(&ra, &ia, &rb, &ib, dst, at, i, m, len, s, r, even);
+        at = store::<16>(&ra, &ia, &rb, &ib, dst, at, i, m, len, s, r, even);
         i += len;
     }
 }
@@ -144,7 +142,7 @@ pub fn work(plan: Record, j: usize, w: usize, src: &[f32], dst: &mut [f32], tw: 
     let r = plan.radices[j] as usize;
     let m = plan.half / r;
     if j == 0 {
-        first_stage(src, tw, dst, m, r);
+        first_stage(src, dst, m, r);
     } else {
         later_stage(src, tw, dst, m, stride(plan, j), r, w);
     }

@@ -11,14 +11,12 @@ fn row(re: &[f32], im: &[f32], k: usize, dst: &mut [f32], at: usize, n: usize)
     requires { (k + n ≤ 128) × (length re.now ≡ 128) × (length im.now ≡ 128) × (2 * (at + n) ≤ length dst.old) }
     ensures { Wrote (λ t. lane re.now im.now (k + t)) at n dst.old dst.new }
 {
-    let mut t = 0;
-    while t < n {
+    for t in 0..n {
         let z = Complex {
             re: re[k + t],
             im: im[k + t],
         };
         put(dst, at + t, z);
-        t += 1;
     }
 }
 
@@ -49,18 +47,9 @@ pub fn rows(
     requires { InBlock i n s r (length dst.old) × (at ≡ i / s * (s * r) + i % s) × Batch n × (0 < n) × (j + n ≤ 16) × (length re.now ≡ 128) × (length im.now ≡ 128) }
     ensures { (v : ℕ → ℕ → Complex) → ((t p : ℕ) → t < n → p < r → lane re.now im.now (16 * p + j + t) ≡ v (i + t) p) → Done s r v dst.old i → Done s r v dst.new (i + n) }
 {
-    let mut p = 0;
-    while p < r {
+    for p in 0..r {
         piece(re, im, 16 * p + j, dst, at + p * s, n);
-        p += 1;
     }
-}
-
-// The smaller of two.
-pub fn least(a: usize, b: usize) -> usize
-    ensures { (result ≤ a) × (result ≤ b) × (0 < a → 0 < b → 0 < result) × (a < b → result ≡ a) × (b ≤ a → result ≡ b) }
-{
-    if a < b { a } else { b }
 }
 
 // How many cells are stored at once where that divides the stride; 0 where it is found anew each time.
@@ -84,7 +73,7 @@ pub fn batch(even: usize, a: usize, b: usize) -> usize
     if even > 0 {
         return even;
     }
-    let n = least(a, b);
+    let n = a.min(b);
     if n > 3 {
         return 4;
     }
@@ -162,8 +151,9 @@ pub fn step<'a>(
     }
 }
 
-// The outputs of the len iterations from i on, from the lanes to their cells, some of one block at a time; and the place of the next.
-pub fn store<'a>(
+// The outputs of the len iterations from i on, at most N, from the lanes to their cells, some of one block at a time; and the place of the next. Each N
+// is an instance of its own, since the compiler makes vectors only of lanes that one function stores.
+pub fn store<'a, const N: usize>(
     ra: &'a [f32],
     ia: &'a [f32],
     rb: &'a [f32],
@@ -177,7 +167,7 @@ pub fn store<'a>(
     r: usize,
     even: usize,
 ) -> Place
-    requires { Stored i m len s r (length dst.old) × Evenly even len s × Placed even i s r from.block from.col × Pairs ra.now ia.now rb.now ib.now }
+    requires { Stored i m len s r (length dst.old) × (len ≤ N) × Evenly even len s × Placed even i s r from.block from.col × Pairs ra.now ia.now rb.now ib.now }
     ensures { Placed even (i + len) s r result.block result.col × ((v : ℕ → ℕ → Complex) → Paired i len r v ra.now ia.now rb.now ib.now → Done s r v dst.old i → Done s r v dst.new (i + len)) }
 {
     let mut next = Next { at: from, j: 0 };

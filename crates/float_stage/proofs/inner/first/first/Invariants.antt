@@ -1,14 +1,10 @@
 -- `float_stage::inner::first::first` meets its contract. Assumes nothing.
-use Rattle.sequences.proofs.Basics.{◌≡◌, ℕ, ◌+◌, ◌-◌, ◌≤◌, true, length}
+use Rattle.sequences.proofs.Basics.{ℕ, true}
 use Rattle.floats.specs.declared.complex.Complex.{Complex}
 use Rattle.kernel.specs.Parts.{output_of}
 use Rattle.storing.specs.Parts.{Done}
 use Rattle.float_stage.proofs.inner.first.first.Given as goal
 
-abbrev pub invariant-loop-j : goal.invariant-loop-j
-invariant-loop-j l = (l.j ≤ l.len) × (length l.dst ≡ length l.initial.dst)
-    × ((lent : ℕ → ℕ → Complex) → Done 1 l.r (output_of true l.m l.r l.src lent) l.initial.dst l.i → Done 1 l.r (output_of true l.m l.r l.src lent) l.dst
-    (l.i + l.j))
-
-abbrev pub decreases-loop-j : goal.decreases-loop-j
-decreases-loop-j l = l.len - l.j
+abbrev pub invariant-loop-k : goal.invariant-loop-k
+invariant-loop-k l =
+    (lent : ℕ → ℕ → Complex) → Done 1 l.r (output_of true l.m l.r l.src lent) l.initial.dst l.i → Done 1 l.r (output_of true l.m l.r l.src lent) l.dst l.k

@@ -4,17 +4,11 @@ use Rattle.storing.proofs.Writes.{wrote_none, wrote_step, wrote_all}
 use Rattle.float_stage.proofs.inner.first.spread.Goals as goal
 
 pub loop-p-init : goal.loop-p-init
-loop-p-init c = (omega arith, wrote_none _ _ _)
-
-pub put-requires : goal.put-requires
-put-requires c = omega (arith, c.loop-p.invariant.1.size)
+loop-p-init c = wrote_none _ _ _
 
 pub loop-p-preserved : goal.loop-p-preserved
-loop-p-preserved c = let l = c.loop-p in let put = c.put in let room : 2 * (c.args.at + l.p) + 1 < length c.args.dst.now = omega arith in
-    (omega arith, wrote_step _ _ _ l.p l.dst _ _ room l.invariant.1 refl put.ensures)
-
-pub shape_of-dst : goal.shape_of-dst
-shape_of-dst c = c.loop-p.invariant.1.size
+loop-p-preserved c = let l = c.loop-p in let room : 2 * (c.args.at + l.p) + 1 < length c.args.dst.now = omega arith in
+    wrote_step _ _ _ l.p l.dst _ _ room l.invariant refl c.put.ensures
 
 pub returns : goal.returns
-returns c = let all : c.loop-p.p ≡ c.args.r = omega arith in wrote_all _ _ _ all c.loop-p.invariant.1
+returns c = let all : c.loop-p.p ≡ c.args.r = omega arith in wrote_all _ _ _ all c.loop-p.invariant

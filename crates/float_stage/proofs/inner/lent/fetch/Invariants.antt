@@ -5,7 +5,4 @@ use Rattle.lanes.specs.Parts.{Fetched}
 use Rattle.float_stage.proofs.inner.lent.fetch.Given as goal
 
 abbrev pub invariant-loop-j : goal.invariant-loop-j
-invariant-loop-j l = (l.j ≤ l.len) × (length l.t ≡ length l.initial.t) × Fetched l.i l.j l.r (lent_at l.m l.r l.w l.tw) l.t
-
-abbrev pub decreases-loop-j : goal.decreases-loop-j
-decreases-loop-j l = l.len - l.j
+invariant-loop-j l = (length l.t ≡ length l.initial.t) × Fetched l.i l.j l.r (lent_at l.m l.r l.w l.tw) l.t

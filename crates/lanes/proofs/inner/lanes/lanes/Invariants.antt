@@ -1,11 +1,6 @@
 -- `lanes::inner::lanes::lanes` meets its contract. Assumes nothing.
-use Rattle.sequences.proofs.Basics.{◌-◌, ◌≤◌}
-use Rattle.lanes.specs.Parts.{Fetched}
 use Rattle.lanes.proofs.Arms.{Kept}
 use Rattle.lanes.proofs.inner.lanes.lanes.Given as goal
 
 abbrev pub invariant-loop-j : goal.invariant-loop-j
-invariant-loop-j l = (l.j ≤ l.len) × Kept (λ lent. Fetched l.i l.len l.r lent l.tw) l.i l.j l.m l.r l.src l.ra l.ia l.rb l.ib
-
-abbrev pub decreases-loop-j : goal.decreases-loop-j
-decreases-loop-j l = l.len - l.j
+invariant-loop-j g l = Kept g.row.N l.i l.len l.j l.m l.r l.src l.tw l.ra l.ia l.rb l.ib

@@ -1,11 +1,8 @@
 -- `storing::inner::storing::row` meets its contract. Assumes nothing.
-use Rattle.sequences.proofs.Basics.{◌+◌, ◌-◌, ◌≤◌}
+use Rattle.sequences.proofs.Basics.{◌+◌}
 use Rattle.lanes.specs.Parts.{lane}
 use Rattle.storing.specs.Parts.{Wrote}
 use Rattle.storing.proofs.inner.storing.row.Given as goal
 
 abbrev pub invariant-loop-t : goal.invariant-loop-t
-invariant-loop-t l = (l.t ≤ l.n) × Wrote (λ u. lane l.re l.im (l.k + u)) l.at l.t l.initial.dst l.dst
-
-abbrev pub decreases-loop-t : goal.decreases-loop-t
-decreases-loop-t l = l.n - l.t
+invariant-loop-t l = Wrote (λ u. lane l.re l.im (l.k + u)) l.at l.t l.initial.dst l.dst

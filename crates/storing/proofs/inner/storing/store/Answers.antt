@@ -4,19 +4,19 @@ use Rattle.storing.proofs.Batches.{storing_none, storing_asks, storing_next, sto
 use Rattle.storing.proofs.inner.storing.store.Goals as goal
 
 pub loop-next-init : goal.loop-next-init
-loop-next-init c = let p = c.requires in storing_none p.1 p.2
+loop-next-init g c = let p = c.requires in storing_none p.2 p.3
 
 pub step-next-requires : goal.step-next-requires
-step-next-requires c = let p = c.requires in storing_asks c.loop-next.invariant p.0 p.1 c.loop-next-test.true p.3
+step-next-requires g c = let p = c.requires in storing_asks c.loop-next.invariant p.0 p.2 c.loop-next-test.true p.4
 
 pub loop-next-smaller : goal.loop-next-smaller
-loop-next-smaller c = omega (arith, c.step-next.ensures.0.fits)
+loop-next-smaller g c = omega (arith, c.step-next.ensures.0.fits)
 
 pub loop-next-preserved : goal.loop-next-preserved
-loop-next-preserved c = storing_next c.loop-next.invariant c.step-next.auto.dst c.step-next.ensures
+loop-next-preserved g c = storing_next c.loop-next.invariant c.step-next.auto.dst c.step-next.ensures
 
 pub shape_of-dst : goal.shape_of-dst
-shape_of-dst c = c.loop-next.invariant.size
+shape_of-dst g c = c.loop-next.invariant.size
 
 pub returns : goal.returns
-returns c = storing_all c.loop-next.invariant (omega arith)
+returns g c = storing_all c.loop-next.invariant (omega arith)
