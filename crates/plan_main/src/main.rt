@@ -37,9 +37,7 @@ fn read_input(rt: &impl Input, input: &mut [u8]) -> io::Result<usize>
 // Prints the report on an input.
 fn print(rt: &(impl Print + Eprint), input: &[u8]) {
     let text: Text = plan_text::report(input);
-    let bytes = text.bytes;
-    let len = text.len;
-    if rt.write_all(&bytes[..len]).is_err() {
+    if rt.write_all(text.as_bytes()).is_err() {
         say(rt, "plan: standard output cannot be written\n");
     }
 }

@@ -13,9 +13,10 @@ use Rattle.plan.specs.declared.Planned.{Planned}
 use Rattle.counts.proofs.Counts.{record_accepted}
 use Rattle.plan.proofs.Bounds.{plan_order}
 use Rattle.plan.proofs.Records.{accepted_good, planned_passes}
-use Rattle.text.specs.Lines.{text_of, decimal}
+use Rattle.text.specs.Lines.{decimal}
 use Rattle.text.specs.Growing.{Holds}
 use Rattle.text.specs.declared.Text.{Text}
+use Rattle.little.specs.Numbers.{ascii}
 use Rattle.tokens.specs.Tokens.{radices, first_read}
 use Rattle.plan_text.specs.Report.{lines_of, report_of, Reports, factor_words}
 
@@ -53,17 +54,15 @@ take_least n xs = dite (dec_le (length xs) n) (λ (h : length xs ≤ n).
 -- the text of the report's bytes
 pub reported : {xs : List ℕ} {r : Text} {input : List ℕ} → xs ≡ lines_of (planned (radices (first_read input))) → Holds xs r → Reports input r
 unfolding report_of
-reported {xs} {r} {input} e h = record { answer = h.text ∙ ap text_of e; fits = omega (arith, h.fits, ap length e) }
+reported {xs} {r} {input} e h = record { answer = h.text ∙ e; fits = omega (arith, h.fits, ap length e) }
 
 -- the words of some radices
-pub some_factors : (count : ℕ) (rs : List ℕ) → 0 < count → 0 < length rs → factor_words (take count rs) ≡ map decimal (take count rs)
+pub some_factors : (rs : List ℕ) → (length rs ≡ 0 → ⊥) → factor_words rs ≡ map decimal rs
 unfolding factor_words
-some_factors zero rs p q = absurd (none p)
-  where
-    none : 0 < 0 → ⊥
-    none h = omega arith
-some_factors (suc k) [] p q = absurd (none q)
-  where
-    none : 0 < 0 → ⊥
-    none h = omega arith
-some_factors (suc k) (b ∷ bs) p q = refl
+some_factors [] n = absurd (n refl)
+some_factors (b ∷ bs) n = refl
+
+pub no_factors : (rs : List ℕ) → length rs ≡ 0 → factor_words rs ≡ ascii "-" ∷ []
+unfolding factor_words
+no_factors [] n = refl
+no_factors (b ∷ bs) n = absurd (omega arith)

@@ -12,21 +12,17 @@ use Rattle.text.specs.declared.Text.{Text}
 use Rattle.tokens.specs.Tokens.{is_blank, tokens_from, tokens, digit_value, radix_of, radices}
 use Rattle.plan_text.specs.Report.{factor_words, plan_lines, refusal_line, report_of, Reports}
 
--- the used bytes are the report
-pub report_used : {input : List ℕ} {r : Text} → Reports input r → take r.len r.bytes ≡ report_of input
-report_used {input} f =
-    let xs = report_of input in
-    ap (λ (t : Text). take t.len t.bytes) f.answer ∙ take-append_seam xs (replicate (256 - length xs) 0)
+-- its bytes are the report
+pub report_used : {input : List ℕ} {r : Text} → Reports input r → r ≡ report_of input
+report_used f = f.answer
 
--- they are no more than there are
-pub report_fits : {input : List ℕ} {r : Text} → Reports input r → r.len ≤ length r.bytes
-report_fits {input} f =
-    let xs = report_of input in
-    omega (arith, ap (λ (t : Text). t.len) f.answer, ap (λ (t : Text). length t.bytes) f.answer, length-append xs (replicate (256 - length xs) 0))
+-- they are no more than there is room for
+pub report_fits : {input : List ℕ} {r : Text} → Reports input r → length r ≤ 256
+report_fits f = omega (arith, f.fits, ap length f.answer)
 
--- as many as the length says
-pub report_counts : {input : List ℕ} {r : Text} → Reports input r → r.len ≡ length (take r.len r.bytes)
-report_counts f = ap (λ (t : Text). t.len) f.answer ∙ sym (ap length (report_used f))
+-- as many as the report has
+pub report_counts : {input : List ℕ} {r : Text} → Reports input r → length r ≡ length (report_of input)
+report_counts f = ap length f.answer
 
 -- nothing read
 nothing : report_of [] ≡ ascii "refused 1 0\n"

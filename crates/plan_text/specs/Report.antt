@@ -12,7 +12,7 @@ use Rattle.plan.specs.declared.Planned.{Planned}
 use Rattle.counts.specs.declared.Buffer.{Buffer}
 use Rattle.counts.specs.declared.Buffer.TheVariants.{Data, Scratchpad}
 use Rattle.little.specs.Numbers.{ascii}
-use Rattle.text.specs.Lines.{decimal, line, text_of}
+use Rattle.text.specs.Lines.{decimal, line}
 use Rattle.text.specs.declared.Text.{Text}
 use Rattle.tokens.specs.Tokens.{radices, first_read}
 
@@ -56,5 +56,5 @@ report_of input = lines_of (planned (radices (first_read input)))
 
 -- what `report` promises of its answer
 pub record Reports (input : List ℕ) (r : Text) : Type 0 where
-  pub answer : r ≡ text_of (report_of input)
+  pub answer : r ≡ report_of input
   pub fits : length (report_of input) ≤ 256

@@ -8,13 +8,13 @@ ghost use Rattle.plan_text.specs.Report.{Reports};
 use inner::lines::{plan_lines, refusal_line};
 use refusal::Verdict;
 use text::Text;
-use tokens::inner::tokens::{least, read_radices};
+use tokens::inner::tokens::read_radices;
 
 // What the plan program prints for an input, of which the first 4,096 bytes count.
 pub fn report(input: &[u8]) -> Text
     ensures { Reports input.now result }
 {
-    let read = least(input.len(), 4096);
+    let read = input.len().min(4096);
     let tokens = read_radices(&input[..read]);
     let list = tokens.list;
     let count = tokens.count;

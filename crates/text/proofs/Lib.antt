@@ -1,3 +1,4 @@
 -- The laws that the functions' proofs cite.
 pub mod Growing
 pub mod Decimal
+pub mod Inside

@@ -2,7 +2,6 @@
 use Rattle.std.specs.Prelude.{ℕ, zero, suc, ◌+◌, ◌/◌, ◌%◌, ◌-◌, cond, List, [], ◌∷◌, ◌++◌, ltb, length, replicate}
 use Prim.Native.String.{String}
 use Rattle.little.specs.Numbers.{ascii}
-use Rattle.text.specs.declared.Text.{Text}
 
 -- the last k decimal digits of a number, or all that it has
 unfoldable pub last_digits : ℕ → ℕ → List ℕ
@@ -30,7 +29,3 @@ right width n = indent width n ++ decimal n
 -- a line: its name, its words, and the line end
 abbrev pub line : String → List (List ℕ) → List ℕ
 line name words = ascii name ++ (spaced words ++ (10 ∷ []))
-
--- bytes as a text, unused bytes 0
-abbrev pub text_of : List ℕ → Text
-text_of xs = record { bytes = xs ++ replicate (256 - length xs) 0; len = length xs }

@@ -3,9 +3,23 @@
 
 pub mod inner;
 
-// A text: its bytes, of which the first `len` are used and the others 0.
-#[derive(Clone, Copy)]
+use std::marker::Model;
+
+// A text that grows at its end. No heap, so its bytes stand in an array, the unused ones 0.
+#[derive(Drop)]
 pub struct Text {
-    pub bytes: [u8; 256],
-    pub len: usize,
+    bytes: [u8; 256],
+    len: usize,
+}
+
+impl Model for Text {
+    ghost use Rattle.std.specs.Prelude.{ℕ, List};
+
+    ghost Value = { List ℕ };
+
+    ghost use Rattle.text.specs.Inside.{used, IsText};
+
+    ghost view = { used };
+
+    ghost invariant = { IsText };
 }

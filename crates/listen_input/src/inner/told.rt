@@ -57,19 +57,9 @@ fn began(rt: &HostRuntime, number: usize, place: usize) {
 
 // Prints a line, and answers whether that could be done.
 pub fn printed(rt: &HostRuntime, line: Text) -> bool {
-    let bytes = line.bytes;
-    if is_written(rt, &bytes, line.len) {
+    if rt.write_all(line.as_bytes()).is_ok() {
         return true;
     }
     fault(rt, b"standard output cannot be written", b"");
     false
-}
-
-// Writes so many of a line's bytes, and answers whether that could be done.
-fn is_written(rt: &HostRuntime, bytes: &[u8; 256], length: usize) -> bool {
-    let all: &[u8] = bytes;
-    if length > all.len() {
-        return false;
-    }
-    rt.write_all(&all[0..length]).is_ok()
 }

@@ -1,5 +1,5 @@
 // The lines of a block, of samples that are left over, and of the whole.
-ghost use Rattle.std.specs.Prelude.{◌+◌, ◌≤◌, ◌<◌, [], ◌∷◌};
+ghost use Rattle.std.specs.Prelude.{◌+◌, ◌≤◌, ◌<◌, [], ◌∷◌, length};
 ghost use Rattle.text.specs.Growing.{Adds, Holds};
 ghost use Rattle.listen_text.specs.Lines.{digit, time_text, tenths_text, level_text, decision_text, block_line, left_line, whole_line};
 
@@ -7,59 +7,65 @@ use hear::Decision;
 use levels::inner::levels::{level_of, step_of};
 use listening::Block;
 use text::Text;
-use text::inner::text::{empty, with_byte, with_bytes, with_decimal, with_indent, with_right};
 
 // A digit.
-fn with_digit(t: Text, n: usize) -> Text
-    requires { (t.len < 256) × (n < 10) }
-    ensures { Adds t (digit n ∷ []) 1 result }
+fn push_digit(text: &mut Text, n: usize)
+    requires { (length text.old < 256) × (n < 10) }
+    ensures { Adds text.old (digit n ∷ []) 1 text.new }
 {
-    with_byte(t, 48 + n as u8)
+    text.push(b'0' + n as u8);
 }
 
 // A time in seconds, to the millisecond.
-fn with_time(t: Text, ms: usize) -> Text
-    requires { t.len + 26 ≤ 256 }
-    ensures { Adds t (time_text ms) 26 result }
+fn push_time(text: &mut Text, ms: usize)
+    requires { length text.old + 26 ≤ 256 }
+    ensures { Adds text.old (time_text ms) 26 text.new }
 {
-    let seconds = with_byte(with_right(t, ms / 1000, 6), b'.');
-    let tenths = with_digit(seconds, ms / 100 % 10);
-    let hundredths = with_digit(tenths, ms / 10 % 10);
-    with_bytes(with_digit(hundredths, ms % 10), b" s")
+    text.push_right(ms / 1000, 6);
+    text.push(b'.');
+    push_digit(text, ms / 100 % 10);
+    push_digit(text, ms / 10 % 10);
+    push_digit(text, ms % 10);
+    text.extend_from_slice(b" s");
 }
 
 // So many tenths of a decibel behind a sign.
-fn with_tenths(t: Text, sign: u8, tenths: usize) -> Text
-    requires { t.len + 26 ≤ 256 }
-    ensures { Adds t (tenths_text sign tenths) 26 result }
+fn push_tenths(text: &mut Text, sign: u8, tenths: usize)
+    requires { length text.old + 26 ≤ 256 }
+    ensures { Adds text.old (tenths_text sign tenths) 26 text.new }
 {
     let whole = tenths / 10;
-    let signed = with_byte(with_indent(t, whole, 3), sign);
-    with_digit(with_byte(with_decimal(signed, whole), b'.'), tenths % 10)
+    text.push_indent(whole, 3);
+    text.push(sign);
+    text.push_decimal(whole);
+    text.push(b'.');
+    push_digit(text, tenths % 10);
 }
 
 // A level, in decibels.
-pub fn with_level(t: Text, level: usize) -> Text
-    requires { t.len + 26 ≤ 256 }
-    ensures { Adds t (level_text level) 26 result }
+pub fn push_level(text: &mut Text, level: usize)
+    requires { length text.old + 26 ≤ 256 }
+    ensures { Adds text.old (level_text level) 26 text.new }
 {
     if level == 0 {
-        return with_bytes(t, b"  -inf");
+        text.extend_from_slice(b"  -inf");
+        return;
     }
     if level < 16000 {
-        return with_tenths(t, b'-', 16000 - level);
+        push_tenths(text, b'-', 16000 - level);
+        return;
     }
-    with_tenths(t, b' ', level - 16000)
+    push_tenths(text, b' ', level - 16000);
 }
 
 // Whether the bees fan.
-fn with_decision(t: Text, decision: Decision) -> Text
-    requires { t.len + 8 ≤ 256 }
-    ensures { Adds t (decision_text decision) 8 result }
+fn push_decision(text: &mut Text, decision: Decision)
+    requires { length text.old + 8 ≤ 256 }
+    ensures { Adds text.old (decision_text decision) 8 text.new }
 {
     match decision {
-        Decision::Fanning => with_bytes(t, b"fanning\n"),
-        Decision::Quiet => with_bytes(t, b"quiet\n"),
+        Decision::Fanning => text.extend_from_slice(b"fanning\n"),
+        Decision::Quiet => text.extend_from_slice(b"quiet\n"),
     }
 }
 
@@ -68,24 +74,27 @@ pub fn block_line(ms: usize, full: usize, block: Block) -> Text
     requires { full ≤ 65535 }
     ensures { Holds (block_line ms full block) result }
 {
-    let timed = with_bytes(with_time(empty(), ms), b"   band ");
-    let inside = with_level(timed, level_of(full, step_of(block.band)));
-    let between = with_bytes(inside, b" dB   outside ");
-    let outside = with_level(between, level_of(full, step_of(block.outside)));
-    let decision = block.decision;
-    with_decision(with_bytes(outside, b" dB   "), decision)
+    let mut text = Text::new();
+    push_time(&mut text, ms);
+    text.extend_from_slice(b"   band ");
+    push_level(&mut text, level_of(full, step_of(block.band)));
+    text.extend_from_slice(b" dB   outside ");
+    push_level(&mut text, level_of(full, step_of(block.outside)));
+    text.extend_from_slice(b" dB   ");
+    push_decision(&mut text, block.decision);
+    text
 }
 
 // The line of samples at the end that make no block.
 pub fn left_line(ms: usize, samples: usize) -> Text
     ensures { Holds (left_line ms samples) result }
 {
-    let timed = with_bytes(with_time(empty(), ms), b"   ");
-    let counted = with_decimal(timed, samples);
-    with_bytes(
-        counted,
-        b" samples are left, too few for a block: not heard\n",
-    )
+    let mut text = Text::new();
+    push_time(&mut text, ms);
+    text.extend_from_slice(b"   ");
+    text.push_decimal(samples);
+    text.extend_from_slice(b" samples are left, too few for a block: not heard\n");
+    text
 }
 
 // The line of the whole: how many blocks, and how many of them fan.
@@ -93,7 +102,12 @@ pub fn whole_line(blocks: usize, fanning: usize) -> Text
     requires { fanning ≤ blocks }
     ensures { Holds (whole_line blocks fanning) result }
 {
-    let heard = with_bytes(with_decimal(empty(), blocks), b" blocks heard: ");
-    let fan = with_bytes(with_decimal(heard, fanning), b" fanning, ");
-    with_bytes(with_decimal(fan, blocks - fanning), b" quiet\n")
+    let mut text = Text::new();
+    text.push_decimal(blocks);
+    text.extend_from_slice(b" blocks heard: ");
+    text.push_decimal(fanning);
+    text.extend_from_slice(b" fanning, ");
+    text.push_decimal(blocks - fanning);
+    text.extend_from_slice(b" quiet\n");
+    text
 }

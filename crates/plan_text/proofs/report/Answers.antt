@@ -8,10 +8,10 @@ use Rattle.plan_text.proofs.Plans.{planned_ok, take_least, reported}
 use Rattle.plan_text.proofs.report.Goals as goal
 
 pub slice_bounds-read_radices-end : goal.slice_bounds-read_radices-end
-slice_bounds-read_radices-end c = sym (length-take-le c.least-read.result c.args.input.now (omega arith))
+slice_bounds-read_radices-end c = sym (length-take-le c.min-read.result c.args.input.now (omega arith))
 
 pub read_radices-tokens-requires : goal.read_radices-tokens-requires
-read_radices-tokens-requires c = omega (arith, length-take c.least-read.result c.args.input.now)
+read_radices-tokens-requires c = omega (arith, length-take c.min-read.result c.args.input.now)
 
 pub slice_bounds-list-end : goal.slice_bounds-list-end
 slice_bounds-list-end c = omega arith
@@ -27,10 +27,10 @@ pub returns-in-Accepted : goal.returns-in-Accepted
 returns-in-Accepted c = let input = c.args.input.now in let a = c.plan-answer in reported (ap (λ (v : Verdict). lines_by v a.result.plan a.result.merges)
     (sym c.in-Accepted.is) ∙ ap lines_of (a.ensures.answer
     ∙ ap planned (c.read_radices-tokens.ensures.answer
-    ∙ ap radices (ap (λ (k : ℕ). take k input) c.least-read.ensures ∙ take_least 4096 input)))) c.plan_lines.ensures
+    ∙ ap radices (ap (λ (k : ℕ). take k input) c.min-read.ensures ∙ take_least 4096 input)))) c.plan_lines.ensures
 
 pub returns-in-Refused : goal.returns-in-Refused
 returns-in-Refused c = let input = c.args.input.now in let a = c.plan-answer in reported (ap (λ (v : Verdict). lines_by v a.result.plan a.result.merges)
     (sym c.in-Refused.is) ∙ ap lines_of
     (a.ensures.answer ∙ ap planned (c.read_radices-tokens.ensures.answer
-    ∙ ap radices (ap (λ (k : ℕ). take k input) c.least-read.ensures ∙ take_least 4096 input)))) c.refusal_line.ensures
+    ∙ ap radices (ap (λ (k : ℕ). take k input) c.min-read.ensures ∙ take_least 4096 input)))) c.refusal_line.ensures

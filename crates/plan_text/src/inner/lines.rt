@@ -1,5 +1,5 @@
 // The lines that tell of a plan or of a refusal.
-ghost use Rattle.std.specs.Prelude.{◌≡◌, true, [], ◌∷◌, map, ◌+◌, ◌*◌, ◌≤◌, length, take};
+ghost use Rattle.std.specs.Prelude.{◌≡◌, true, [], ◌∷◌, map, ◌+◌, ◌*◌, ◌≤◌, length};
 ghost use Rattle.plan.specs.Record.{is_planned};
 ghost use Rattle.text.specs.Lines.{decimal, spaced, line};
 ghost use Rattle.text.specs.Growing.{line_of, Adds, Holds};
@@ -10,59 +10,57 @@ use merging::Merges;
 use plan::Record;
 use refusal::Refusal;
 use text::Text;
-use text::inner::text::{empty, with_byte, with_bytes, with_number, with_radix};
 
 // A line with a number.
-fn number_line(t: Text, name: &[u8], n: usize) -> Text
-    requires { t.len + (length name.now + 22) ≤ 256 }
-    ensures { Adds t (line_of name.now (decimal n ∷ [])) (length name.now + 22) result }
+fn number_line(text: &mut Text, name: &[u8], n: usize)
+    requires { length text.old + (length name.now + 22) ≤ 256 }
+    ensures { Adds text.old (line_of name.now (decimal n ∷ [])) (length name.now + 22) text.new }
 {
-    let named = with_bytes(t, name);
-    with_byte(with_number(named, n), b'\n')
+    text.extend_from_slice(name);
+    text.push_number(n);
+    text.push(b'\n');
 }
 
-// The first radices of an array, each after a blank.
-fn spaced_radices(t: Text, radices: [u8; 13], count: usize) -> Text
-    requires { (count ≤ 13) × (t.len + 4 * count ≤ 256) }
-    ensures { Adds t (spaced (map decimal (take count radices))) (4 * count) result }
+// The radices, each after a blank.
+fn spaced_radices(text: &mut Text, radices: &[u8])
+    requires { length text.old + 4 * length radices.now ≤ 256 }
+    ensures { Adds text.old (spaced (map decimal radices.now)) (4 * length radices.now) text.new }
 {
-    let mut text = t;
-    let mut i = 0;
-    while i < count {
-        text = with_radix(text, radices[i]);
-        i += 1;
+    for &radix in radices {
+        text.push_radix(radix);
     }
-    text
 }
 
 // The words of the line of factors.
-fn factor_words(t: Text, radices: [u8; 13], count: usize) -> Text
-    requires { (count ≤ 13) × (t.len + 52 ≤ 256) }
-    ensures { Adds t (spaced (factor_words (take count radices))) 52 result }
+fn factor_words(text: &mut Text, radices: &[u8])
+    requires { (length radices.now ≤ 13) × (length text.old + 52 ≤ 256) }
+    ensures { Adds text.old (spaced (factor_words radices.now)) 52 text.new }
 {
-    if count == 0 {
-        return with_bytes(t, b" -");
+    if radices.is_empty() {
+        text.extend_from_slice(b" -");
+        return;
     }
-    spaced_radices(t, radices, count)
+    spaced_radices(text, radices);
 }
 
 // The line of factors.
-fn factors_line(t: Text, radices: [u8; 13], count: usize) -> Text
-    requires { (count ≤ 13) × (t.len + 60 ≤ 256) }
-    ensures { Adds t (line "factors" (factor_words (take count radices))) 60 result }
+fn factors_line(text: &mut Text, radices: &[u8])
+    requires { (length radices.now ≤ 13) × (length text.old + 60 ≤ 256) }
+    ensures { Adds text.old (line "factors" (factor_words radices.now)) 60 text.new }
 {
-    let named = with_bytes(t, b"factors");
-    with_byte(factor_words(named, radices, count), b'\n')
+    text.extend_from_slice(b"factors");
+    factor_words(text, radices);
+    text.push(b'\n');
 }
 
 // The line of the buffer with the result.
-fn result_line(t: Text, buffer: Buffer) -> Text
-    requires { t.len + 18 ≤ 256 }
-    ensures { Adds t (line "result" (buffer_name buffer ∷ [])) 18 result }
+fn result_line(text: &mut Text, buffer: Buffer)
+    requires { length text.old + 18 ≤ 256 }
+    ensures { Adds text.old (line "result" (buffer_name buffer ∷ [])) 18 text.new }
 {
     match buffer {
-        Buffer::Data => with_bytes(t, b"result data\n"),
-        Buffer::Scratchpad => with_bytes(t, b"result scratchpad\n"),
+        Buffer::Data => text.extend_from_slice(b"result data\n"),
+        Buffer::Scratchpad => text.extend_from_slice(b"result scratchpad\n"),
     }
 }
 
@@ -71,23 +69,25 @@ pub fn plan_lines(plan: Record, merges: Merges) -> Text
     requires { is_planned plan ≡ true }
     ensures { Holds (plan_lines plan merges) result }
 {
-    let n = number_line(empty(), b"n", plan.n);
-    let half = number_line(n, b"half", plan.half);
-    let radices = plan.radices;
-    let factors = factors_line(half, radices, plan.count);
-    let merged = number_line(factors, b"merges", merges.count);
-    let stage = number_line(merged, b"stage", counts::stage_twiddles(plan).count);
-    let end = number_line(stage, b"end", counts::end_twiddles(plan).count);
-    let located = counts::result(plan);
-    let buffer = located.buffer;
-    result_line(end, buffer)
+    let mut text = Text::new();
+    number_line(&mut text, b"n", plan.n);
+    number_line(&mut text, b"half", plan.half);
+    factors_line(&mut text, &plan.radices[..plan.count]);
+    number_line(&mut text, b"merges", merges.count);
+    number_line(&mut text, b"stage", counts::stage_twiddles(plan).count);
+    number_line(&mut text, b"end", counts::end_twiddles(plan).count);
+    result_line(&mut text, counts::result(plan).buffer);
+    text
 }
 
 // A refusal, in one line.
 pub fn refusal_line(why: Refusal) -> Text
     ensures { Holds (refusal_line why) result }
 {
-    let named = with_bytes(empty(), b"refused");
-    let numbered = with_number(named, why.number() as usize);
-    with_byte(with_number(numbered, why.place()), b'\n')
+    let mut text = Text::new();
+    text.extend_from_slice(b"refused");
+    text.push_number(why.number() as usize);
+    text.push_number(why.place());
+    text.push(b'\n');
+    text
 }

@@ -5,41 +5,6 @@ ghost use Rattle.text.specs.Growing.{Starts, Adds};
 
 use crate::Text;
 
-// No bytes.
-pub fn empty() -> Text
-    ensures { Starts result }
-{
-    Text {
-        bytes: [0u8; 256],
-        len: 0,
-    }
-}
-
-// One byte more.
-pub fn with_byte(t: Text, b: u8) -> Text
-    requires { t.len < 256 }
-    ensures { Adds t (b ∷ []) 1 result }
-{
-    let mut bytes = t.bytes;
-    let at = t.len;
-    bytes[at] = b;
-    Text { bytes, len: at + 1 }
-}
-
-// More bytes.
-pub fn with_bytes(t: Text, s: &[u8]) -> Text
-    requires { t.len + length s.now ≤ 256 }
-    ensures { Adds t s.now (length s.now) result }
-{
-    let mut text = t;
-    let mut i = 0;
-    while i < s.len() {
-        text = with_byte(text, s[i]);
-        i += 1;
-    }
-    text
-}
-
 // How many decimal digits a number has.
 fn digits(n: usize) -> usize
     ensures { result ≡ length (decimal n) }
@@ -53,72 +18,105 @@ fn digits(n: usize) -> usize
     count
 }
 
-// The same byte so many times.
-pub fn with_signs(t: Text, sign: u8, count: usize) -> Text
-    requires { t.len + count ≤ 256 }
-    ensures { Adds t (replicate count sign) count result }
-{
-    let mut text = t;
-    let mut i: usize = 0;
-    while i < count {
-        text = with_byte(text, sign);
-        i += 1;
+impl Text {
+    // No bytes.
+    pub fn new() -> Text
+        ensures { Starts result }
+    {
+        Text {
+            bytes: [0u8; 256],
+            len: 0,
+        }
     }
-    text
-}
 
-// The decimal digits of a number.
-fn with_digits(t: Text, n: usize) -> Text
-    requires { t.len + length (decimal n) ≤ 256 }
-    ensures { Adds t (decimal n) (length (decimal n)) result }
-{
-    if n < 10 {
-        return with_byte(t, 48 + n as u8);
+    // The bytes.
+    pub fn as_bytes(&self) -> &[u8]
+        ensures { result.now ≡ self.now }
+    {
+        &self.bytes[..self.len]
     }
-    let front = with_digits(t, n / 10);
-    with_byte(front, 48 + (n % 10) as u8)
-}
 
-// A number in decimal, at most 20 digits.
-pub fn with_decimal(t: Text, n: usize) -> Text
-    requires { t.len + 20 ≤ 256 }
-    ensures { Adds t (decimal n) 20 result }
-{
-    with_digits(t, n)
-}
-
-// A number after a blank.
-pub fn with_number(t: Text, n: usize) -> Text
-    requires { t.len + 21 ≤ 256 }
-    ensures { Adds t (spaced (decimal n ∷ [])) 21 result }
-{
-    with_decimal(with_byte(t, b' '), n)
-}
-
-// A radix after a blank.
-pub fn with_radix(t: Text, b: u8) -> Text
-    requires { t.len + 4 ≤ 256 }
-    ensures { Adds t (spaced (decimal b ∷ [])) 4 result }
-{
-    with_digits(with_byte(t, b' '), b as usize)
-}
-
-// As many blanks as bring a number to a width.
-pub fn with_indent(t: Text, n: usize, width: usize) -> Text
-    requires { t.len + width ≤ 256 }
-    ensures { Adds t (indent width n) (width - length (decimal n)) result }
-{
-    let used = digits(n);
-    if used < width {
-        return with_signs(t, b' ', width - used);
+    // One byte more.
+    pub fn push(&mut self, b: u8)
+        requires { length self.old < 256 }
+        ensures { Adds self.old (b ∷ []) 1 self.new }
+    {
+        self.extend_from_slice(&[b]);
     }
-    t
-}
 
-// A number behind as many blanks as bring it to a width of at most 20.
-pub fn with_right(t: Text, n: usize, width: usize) -> Text
-    requires { (width ≤ 20) × (t.len + 20 ≤ 256) }
-    ensures { Adds t (right width n) 20 result }
-{
-    with_digits(with_indent(t, n, width), n)
+    // More bytes.
+    pub fn extend_from_slice(&mut self, s: &[u8])
+        requires { length self.old + length s.now ≤ 256 }
+        ensures { Adds self.old s.now (length s.now) self.new }
+    {
+        let end = self.len + s.len();
+        self.bytes[self.len..end].copy_from_slice(s);
+        self.len = end;
+    }
+
+    // The same byte so many times.
+    pub fn push_times(&mut self, sign: u8, count: usize)
+        requires { length self.old + count ≤ 256 }
+        ensures { Adds self.old (replicate count sign) count self.new }
+    {
+        for _ in 0..count {
+            self.push(sign);
+        }
+    }
+
+    // The decimal digits of a number.
+    fn push_digits(&mut self, n: usize)
+        requires { length self.old + length (decimal n) ≤ 256 }
+        ensures { Adds self.old (decimal n) (length (decimal n)) self.new }
+    {
+        if n < 10 {
+            self.push(b'0' + n as u8);
+            return;
+        }
+        self.push_digits(n / 10);
+        self.push(b'0' + (n % 10) as u8);
+    }
+
+    // A number in decimal, at most 20 digits.
+    pub fn push_decimal(&mut self, n: usize)
+        requires { length self.old + 20 ≤ 256 }
+        ensures { Adds self.old (decimal n) 20 self.new }
+    {
+        self.push_digits(n);
+    }
+
+    // A number after a blank.
+    pub fn push_number(&mut self, n: usize)
+        requires { length self.old + 21 ≤ 256 }
+        ensures { Adds self.old (spaced (decimal n ∷ [])) 21 self.new }
+    {
+        self.push(b' ');
+        self.push_decimal(n);
+    }
+
+    // A radix after a blank.
+    pub fn push_radix(&mut self, b: u8)
+        requires { length self.old + 4 ≤ 256 }
+        ensures { Adds self.old (spaced (decimal b ∷ [])) 4 self.new }
+    {
+        self.push(b' ');
+        self.push_digits(usize::from(b));
+    }
+
+    // As many blanks as bring a number to a width.
+    pub fn push_indent(&mut self, n: usize, width: usize)
+        requires { length self.old + width ≤ 256 }
+        ensures { Adds self.old (indent width n) (width - length (decimal n)) self.new }
+    {
+        self.push_times(b' ', width.saturating_sub(digits(n)));
+    }
+
+    // A number behind as many blanks as bring it to a width of at most 20.
+    pub fn push_right(&mut self, n: usize, width: usize)
+        requires { (width ≤ 20) × (length self.old + 20 ≤ 256) }
+        ensures { Adds self.old (right width n) 20 self.new }
+    {
+        self.push_indent(n, width);
+        self.push_digits(n);
+    }
 }

@@ -1,5 +1,5 @@
 // From the bytes that were read to a list of radices.
-ghost use Rattle.std.specs.Prelude.{◌≡◌, ◌≤◌, ◌<◌, min, length};
+ghost use Rattle.std.specs.Prelude.{◌≡◌, ◌≤◌, ◌<◌, length};
 ghost use Rattle.tokens.specs.Tokens.{is_blank, digit_value};
 ghost use Rattle.tokens.specs.Reading.{grown, room, pushed, ended_token, stepped, ReadsRadices};
 
@@ -11,7 +11,7 @@ pub enum Token {
     More,
 }
 
-// The radices of the tokens that have ended, and the token that has not.
+// The radices of the tokens that have ended, and the token that has not. No heap, so the radices stand in an array.
 #[derive(Clone, Copy)]
 pub struct Reading {
     pub list: [u8; 2048],
@@ -19,27 +19,16 @@ pub struct Reading {
     pub token: Token,
 }
 
-// The lesser of two numbers.
-pub fn least(a: usize, b: usize) -> usize
-    ensures { result ≡ min a b }
-{
-    if a < b { a } else { b }
-}
-
 // Whether a byte parts tokens.
+#[tactic(auto, unfolding(crate::specs::Tokens::is_blank))]
 fn is_blank(b: u8) -> bool
     ensures { result ≡ is_blank b }
 {
-    match b {
-        b' ' => true,
-        b'\t' => true,
-        b'\n' => true,
-        b'\r' => true,
-        _ => false,
-    }
+    matches!(b, b' ' | b'\t' | b'\n' | b'\r')
 }
 
-// The radix of which a byte is the digit, or 0.
+// The radix of which a byte is the digit, or 0: what is no radix stands in the list too, and planning refuses it at its place.
+#[tactic(auto, using(crate::proofs::Reading::no_digit), unfolding(crate::specs::Tokens::digit_value))]
 fn digit_value(b: u8) -> u8
     ensures { result ≡ digit_value b }
 {
@@ -54,59 +43,52 @@ fn digit_value(b: u8) -> u8
     }
 }
 
-// A token with one byte more.
-fn grow(t: Token, b: u8) -> Token
-    ensures { result ≡ grown t b }
-{
-    match t {
-        Token::Nothing => Token::One(b),
-        Token::One(_) => Token::More,
-        Token::More => Token::More,
+impl Token {
+    // A token with one byte more.
+    fn grow(self, b: u8) -> Token
+        ensures { result ≡ grown self b }
+    {
+        match self {
+            Token::Nothing => Token::One(b),
+            Token::One(_) => Token::More,
+            Token::More => Token::More,
+        }
     }
 }
 
-// The token ends as this radix.
-fn push(s: Reading, v: u8) -> Reading
-    requires { s.count < 2048 }
-    ensures { result ≡ pushed s v }
-{
-    let mut list = s.list;
-    let count = s.count;
-    list[count] = v;
-    Reading {
-        list,
-        count: count + 1,
-        token: Token::Nothing,
+impl Reading {
+    // The token ends as this radix.
+    fn push(&mut self, v: u8)
+        requires { self.old.count < 2048 }
+        ensures { self.new ≡ pushed self.old v }
+    {
+        self.list[self.count] = v;
+        self.count += 1;
+        self.token = Token::Nothing;
     }
-}
 
-// The token ends, if there is one.
-fn end_token(s: Reading) -> Reading
-    requires { room s ≤ 4096 }
-    ensures { result ≡ ended_token s }
-{
-    let token = s.token;
-    match token {
-        Token::Nothing => s,
-        Token::One(b) => push(s, digit_value(b)),
-        Token::More => push(s, 0),
+    // The token ends, if there is one.
+    fn end_token(&mut self)
+        requires { room self.old ≤ 4096 }
+        ensures { self.new ≡ ended_token self.old }
+    {
+        match self.token {
+            Token::Nothing => {}
+            Token::One(b) => self.push(digit_value(b)),
+            Token::More => self.push(0),
+        }
     }
-}
 
-// One byte more.
-fn step(s: Reading, b: u8) -> Reading
-    requires { room s ≤ 4096 }
-    ensures { result ≡ stepped s b }
-{
-    if is_blank(b) {
-        return end_token(s);
-    }
-    let list = s.list;
-    let token = s.token;
-    Reading {
-        list,
-        count: s.count,
-        token: grow(token, b),
+    // One byte more.
+    fn step(&mut self, b: u8)
+        requires { room self.old ≤ 4096 }
+        ensures { self.new ≡ stepped self.old b }
+    {
+        if is_blank(b) {
+            self.end_token();
+            return;
+        }
+        self.token = self.token.grow(b);
     }
 }
 
@@ -115,15 +97,14 @@ pub fn read_radices(text: &[u8]) -> Reading
     requires { length text.now ≤ 4096 }
     ensures { ReadsRadices text.now result }
 {
-    let mut s = Reading {
+    let mut reading = Reading {
         list: [0u8; 2048],
         count: 0,
         token: Token::Nothing,
     };
-    let mut i = 0;
-    while i < text.len() {
-        s = step(s, text[i]);
-        i += 1;
+    for &b in text {
+        reading.step(b);
     }
-    end_token(s)
+    reading.end_token();
+    reading
 }

@@ -8,12 +8,7 @@ ghost use Rattle.wav.specs.Header.{most_samples, header_of};
 fn four_bytes(v: usize) -> [u8; 4]
     ensures { result ≡ bytes_of 4 v }
 {
-    [
-        (v % 256) as u8,
-        (v / 256 % 256) as u8,
-        (v / 256 / 256 % 256) as u8,
-        (v / 256 / 256 / 256 % 256) as u8,
-    ]
+    ((v % 4294967296) as u32).to_le_bytes()
 }
 
 // The 44 bytes for a rate and so many samples.
@@ -38,10 +33,5 @@ pub fn lay(bytes: &[u8], file: &mut [u8])
     requires { length bytes.now ≤ length file.old }
     ensures { file.new ≡ pasted file.old 0 bytes.now }
 {
-    let n = bytes.len();
-    let mut i: usize = 0;
-    while i < n {
-        file[i] = bytes[i];
-        i += 1;
-    }
+    file[..bytes.len()].copy_from_slice(bytes);
 }

@@ -6,5 +6,5 @@ use Rattle.listen_text.proofs.inner.lines.left_line.Goals as goal
 
 pub returns : goal.returns
 unfolding left_line
-returns c = holds c.empty.ensures (lit≤ tt) (then c.with_time.ensures (then c.with_bytes-timed.ensures
-    (then c.with_decimal-counted.ensures c.with_bytes.ensures)))
+returns c = holds c.new-text.ensures (lit≤ tt) (then c.push_time.ensures (then c.extend_from_slice.ensures
+    (then c.push_decimal.ensures c.extend_from_slice-2.ensures)))

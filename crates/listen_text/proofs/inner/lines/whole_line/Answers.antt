@@ -6,5 +6,5 @@ use Rattle.listen_text.proofs.inner.lines.whole_line.Goals as goal
 
 pub returns : goal.returns
 unfolding whole_line
-returns c = holds c.empty.ensures (lit≤ tt) (then c.with_decimal.ensures (then c.with_bytes-heard.ensures (then c.with_decimal-2.ensures
-    (then c.with_bytes-fan.ensures (then c.with_decimal-3.ensures c.with_bytes.ensures)))))
+returns c = holds c.new-text.ensures (lit≤ tt) (then c.push_decimal.ensures (then c.extend_from_slice.ensures (then c.push_decimal-2.ensures
+    (then c.extend_from_slice-2.ensures (then c.push_decimal-3.ensures c.extend_from_slice-3.ensures)))))

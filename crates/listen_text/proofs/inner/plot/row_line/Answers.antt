@@ -6,6 +6,6 @@ use Rattle.listen_text.proofs.inner.plot.row_line.Goals as goal
 
 pub returns : goal.returns
 unfolding row_line
-returns c = holds c.empty.ensures (lit≤ tt) (then c.with_right.ensures (then c.with_bytes-named.ensures (then c.with_level.ensures
-    (then c.with_bytes-levelled.ensures (then {k = 60} (said (ap₂ replicate c.bar_of.ensures.0 c.sign_of.ensures)
-    c.bar_of.ensures.1 c.with_signs-bar.ensures) c.with_byte.ensures)))))
+returns c = holds c.new-text.ensures (lit≤ tt) (then c.push_right.ensures (then c.extend_from_slice.ensures (then c.push_level.ensures
+    (then c.extend_from_slice-2.ensures (then {k = 60} (said (ap₂ replicate c.bar_of.ensures.0 c.sign_of.ensures)
+    c.bar_of.ensures.1 c.push_times.ensures) c.push.ensures)))))

@@ -4,4 +4,4 @@ use Rattle.text.proofs.Growing.{then, said}
 use Rattle.plan_text.proofs.inner.lines.factors_line.Goals as goal
 
 pub returns : goal.returns
-returns c = said refl (lit≤ tt) (then c.with_bytes-named.ensures (then c.factor_words.ensures c.with_byte.ensures))
+returns c = said refl (lit≤ tt) (then c.extend_from_slice.ensures (then c.factor_words.ensures c.push.ensures))

@@ -4,4 +4,4 @@ use Rattle.text.proofs.Growing.{then, said}
 use Rattle.plan_text.proofs.inner.lines.number_line.Goals as goal
 
 pub returns : goal.returns
-returns c = said refl (omega arith) (then c.with_bytes-named.ensures (then c.with_number.ensures c.with_byte.ensures))
+returns c = said refl (omega arith) (then c.extend_from_slice.ensures (then c.push_number.ensures c.push.ensures))

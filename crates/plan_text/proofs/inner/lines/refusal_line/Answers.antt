@@ -11,8 +11,8 @@ pub returns : goal.returns
 unfolding refusal_line
 returns c =
     let n = c.number in let p = c.place in
-    holds {k = 50} c.empty.ensures (lit≤ tt)
+    holds {k = 50} c.new-text.ensures (lit≤ tt)
     (said (ap (λ (l : List ℕ). ascii "refused" ++ l) (two_words (decimal n.result) (decimal p.result) (10 ∷ []))
     ∙ ap (λ (k : ℕ). line "refused" (decimal k ∷ (decimal p.result ∷ []))) n.ensures.answer
     ∙ ap (λ (k : ℕ). line "refused" (decimal (number_of c.args.why) ∷ (decimal k ∷ []))) p.ensures.answer) (lit≤ tt)
-    (then c.with_bytes-named.ensures (then c.with_number-numbered.ensures (then c.with_number.ensures c.with_byte.ensures))))
+    (then c.extend_from_slice.ensures (then c.push_number.ensures (then c.push_number-2.ensures c.push.ensures))))

@@ -1,8 +1,6 @@
 -- `digit_value` is the definition's radix of a byte, case by case. Assumes nothing.
-use Rattle.sequences.proofs.Basics.{sym}
 use Rattle.radices.specs.Lists.{is_radix}
 use Rattle.tokens.specs.Tokens.{digit_value}
-use Rattle.tokens.proofs.Reading.{no_digit}
 use Rattle.tokens.proofs.inner.tokens.digit_value.Goals as goal
 
 pub returns-in-50 : goal.returns-in-50
@@ -28,7 +26,3 @@ returns-in-55 c = simp c.in-55.is
 pub returns-in-56 : goal.returns-in-56
 unfolding digit_value is_radix
 returns-in-56 c = simp c.in-56.is
-
-pub returns-in_default : goal.returns-in_default
-unfolding digit_value is_radix
-returns-in_default c = let r = c.in_default.in_default-own.rest in sym (no_digit _ r.0.0.0.0.0.1 r.0.0.0.0.1 r.0.0.0.1 r.0.0.1 r.0.1 r.1)
