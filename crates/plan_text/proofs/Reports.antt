@@ -4,7 +4,7 @@ use Rattle.radices.specs.Lists.{is_radix, product, first_bad, first_over, index_
 use Rattle.sequences.specs.Lists.{first_that}
 use Rattle.halving.specs.Half.{halving, halved, half}
 use Rattle.merging.specs.Merging.{tally, applies, merge, first_rule, rules_up_to, rules, merged_by, merged, letters, sorted, marked}
-use Rattle.plan.specs.Record.{plan_verdict, factors, record_of, refused_plan, accepted_plan, planned}
+use Rattle.plan.specs.Record.{plan_verdict, factors, record_of, accepted_plan, planned}
 use Rattle.counts.specs.Counts.{radix, twiddle_count, twiddle_start, end_count, result_in}
 use Rattle.little.specs.Numbers.{ascii}
 use Rattle.text.specs.Lines.{last_digits, decimal}
@@ -26,7 +26,7 @@ report_counts f = ap length f.answer
 
 -- nothing read
 nothing : report_of [] ≡ ascii "refused 1 0\n"
-unfolding report_of radices tokens tokens_from is_blank radix_of digit_value is_radix planned plan_verdict first_bad first_that first_over product refused_plan
+unfolding report_of radices tokens tokens_from is_blank radix_of digit_value is_radix planned plan_verdict first_bad first_that first_over product
     refusal_line decimal last_digits
 nothing = refl
 

@@ -1,9 +1,7 @@
 -- What the plan program prints for which input. Assumes nothing.
-use Rattle.std.specs.Prelude.{ℕ, ◌≤◌, ◌≡◌, List, [], ◌∷◌, ◌++◌, map, length, take}
+use Rattle.std.specs.Prelude.{ℕ, ◌≤◌, ◌≡◌, List, [], ◌∷◌, ◌++◌, map, length, take, Result, Ok, Err}
 use Rattle.refusal.specs.Refusal.{number_of, place_of}
 use Rattle.refusal.specs.declared.Refusal.{Refusal}
-use Rattle.refusal.specs.Refusal.{Verdict}
-use Rattle.refusal.specs.Refusal.{Accepted, Refused}
 use Rattle.plan.specs.Record.{planned}
 use Rattle.counts.specs.Counts.{stage_twiddles, end_count, result_in}
 use Rattle.plan.specs.declared.Record.{Record}
@@ -41,14 +39,10 @@ plan_lines p m =
 unfoldable pub refusal_line : Refusal → List ℕ
 refusal_line why = line "refused" (decimal (number_of why) ∷ decimal (place_of why) ∷ [])
 
--- a plan or a refusal, as the verdict says
-abbrev pub lines_by : Verdict → Record → Merges → List ℕ
-lines_by Accepted p m = plan_lines p m
-lines_by (Refused why) p m = refusal_line why
-
--- what planning answered, in lines
-abbrev pub lines_of : Planned → List ℕ
-lines_of a = lines_by a.verdict a.plan a.merges
+-- what planning answered, in lines: a plan or a refusal
+abbrev pub lines_of : Result Planned Refusal → List ℕ
+lines_of (Ok made) = plan_lines made.plan made.merges
+lines_of (Err why) = refusal_line why
 
 -- the first bytes of the input are read, parted into tokens and planned
 unfoldable pub report_of : List ℕ → List ℕ

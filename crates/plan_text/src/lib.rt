@@ -6,7 +6,6 @@ pub mod inner;
 ghost use Rattle.plan_text.specs.Report.{Reports};
 
 use inner::lines::{plan_lines, refusal_line};
-use refusal::Verdict;
 use text::Text;
 use tokens::inner::tokens::read_radices;
 
@@ -18,10 +17,8 @@ pub fn report(input: &[u8]) -> Text
     let tokens = read_radices(&input[..read]);
     let list = tokens.list;
     let count = tokens.count;
-    let answer = plan::plan(&list[..count]);
-    let verdict = answer.verdict;
-    match verdict {
-        Ok(()) => plan_lines(answer.plan, answer.merges),
+    match plan::plan(&list[..count]) {
+        Ok(made) => plan_lines(made.plan, made.merges),
         Err(why) => refusal_line(why),
     }
 }

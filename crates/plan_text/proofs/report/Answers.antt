@@ -1,9 +1,8 @@
 -- `plan_text::report` meets its promise: what is read, planned and printed is what the definition says. Assumes nothing.
 use Rattle.sequences.proofs.Basics.{sym, ap, ◌∙◌, ℕ, arith, take, length-take, length-take-le}
-use Rattle.refusal.specs.Refusal.{Verdict}
 use Rattle.plan.specs.Record.{planned}
 use Rattle.tokens.specs.Tokens.{radices}
-use Rattle.plan_text.specs.Report.{lines_by, lines_of}
+use Rattle.plan_text.specs.Report.{lines_of}
 use Rattle.plan_text.proofs.Plans.{planned_ok, take_least, reported}
 use Rattle.plan_text.proofs.report.Goals as goal
 
@@ -20,17 +19,14 @@ pub slice_bounds-plan-end : goal.slice_bounds-plan-end
 slice_bounds-plan-end c = let r = c.read_radices-tokens.result in sym (length-take-le r.count r.list (omega arith))
 
 pub plan_lines-requires : goal.plan_lines-requires
-plan_lines-requires c = planned_ok _ c.plan-answer.result c.plan-answer.ensures.answer
-    c.in-Accepted.is
+plan_lines-requires c = planned_ok _ _ (sym c.in-Ok.is ∙ c.plan.ensures.answer)
 
-pub returns-in-Accepted : goal.returns-in-Accepted
-returns-in-Accepted c = let input = c.args.input.now in let a = c.plan-answer in reported (ap (λ (v : Verdict). lines_by v a.result.plan a.result.merges)
-    (sym c.in-Accepted.is) ∙ ap lines_of (a.ensures.answer
+pub returns-in-Ok : goal.returns-in-Ok
+returns-in-Ok c = let input = c.args.input.now in reported (ap lines_of (sym c.in-Ok.is ∙ c.plan.ensures.answer
     ∙ ap planned (c.read_radices-tokens.ensures.answer
     ∙ ap radices (ap (λ (k : ℕ). take k input) c.min-read.ensures ∙ take_least 4096 input)))) c.plan_lines.ensures
 
-pub returns-in-Refused : goal.returns-in-Refused
-returns-in-Refused c = let input = c.args.input.now in let a = c.plan-answer in reported (ap (λ (v : Verdict). lines_by v a.result.plan a.result.merges)
-    (sym c.in-Refused.is) ∙ ap lines_of
-    (a.ensures.answer ∙ ap planned (c.read_radices-tokens.ensures.answer
+pub returns-in-Err : goal.returns-in-Err
+returns-in-Err c = let input = c.args.input.now in reported (ap lines_of (sym c.in-Err.is ∙ c.plan.ensures.answer
+    ∙ ap planned (c.read_radices-tokens.ensures.answer
     ∙ ap radices (ap (λ (k : ℕ). take k input) c.min-read.ensures ∙ take_least 4096 input)))) c.refusal_line.ensures

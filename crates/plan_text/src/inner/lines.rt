@@ -6,6 +6,7 @@ ghost use Rattle.text.specs.Growing.{line_of, Adds, Holds};
 ghost use Rattle.plan_text.specs.Report.{factor_words, buffer_name, plan_lines, refusal_line};
 
 use counts::Buffer;
+use counts::inner::stages::{end_count, result_in, twiddle_start};
 use merging::Merges;
 use plan::Record;
 use refusal::Refusal;
@@ -74,9 +75,9 @@ pub fn plan_lines(plan: Record, merges: Merges) -> Text
     number_line(&mut text, b"half", plan.half);
     factors_line(&mut text, &plan.radices[..plan.count]);
     number_line(&mut text, b"merges", merges.count);
-    number_line(&mut text, b"stage", counts::stage_twiddles(plan).count);
-    number_line(&mut text, b"end", counts::end_twiddles(plan).count);
-    result_line(&mut text, counts::result(plan).buffer);
+    number_line(&mut text, b"stage", twiddle_start(plan, plan.count));
+    number_line(&mut text, b"end", end_count(plan.n));
+    result_line(&mut text, result_in(plan.count));
     text
 }
 

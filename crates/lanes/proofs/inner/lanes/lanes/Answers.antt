@@ -31,9 +31,14 @@ loop-j-preserved g c =
       | in-4 w ↦ low 4 w.in-4.is _ _ _ _ _ _ _ (omega arith) (omega arith) (w.read-in-4.ensures, w.save-in-4.ensures) w.ra-is w.ia-is
       | in-5 w ↦ low 5 w.in-5.is _ _ _ _ _ _ _ (omega arith) (omega arith) (w.read-in-5.ensures, w.save-in-5.ensures) w.ra-is w.ia-is
       | in-7 w ↦ high 7 w.in-7.is _ _ _ _ _ _ _ (omega arith) (omega arith) (w.read-in-7.ensures, w.save-in-7.ensures) w.rb-is w.ib-is
-      | in_default w ↦ high 8 (later_other p.0 p.6 ((((tt {0}, λ (e : a.r ≡ 3). omega arith), λ (e : a.r ≡ 4). omega arith),
-            λ (e : a.r ≡ 5). omega arith), λ (e : a.r ≡ 7). omega arith)) _ _ _ _ _ _ _ (omega arith) (omega arith)
-            (w.read-in_default.ensures, w.save-in_default.ensures) w.rb-is w.ib-is
+      | in_default w ↦ high 8 (later_other p.0 p.6 (
+        (
+          ((tt {0}, λ (e : a.r ≡ 3). omega arith), λ (e : a.r ≡ 4). omega arith),
+          λ (e : a.r ≡ 5). omega arith,
+        ),
+        λ (e : a.r ≡ 7). omega arith,
+      )) _ _ _ _ _ _ _ (omega arith) (omega arith)
+          (w.read-in_default.ensures, w.save-in_default.ensures) w.rb-is w.ib-is
     ]
 
 pub returns : goal.returns
