@@ -4,10 +4,9 @@
 ghost use Rattle.std.specs.Prelude.{◌≡◌};
 ghost use Rattle.hear.specs.Hear.{NumbersDecision, decided, hear_verdict, Hears};
 
-use plan::Record;
 use power::inner::sum::sum;
 use refusal::{Refusal, Verdict};
-use spectrum::inner::check::lent_samples;
+use spectrum::Tables;
 use transform::inner::directions::forward;
 
 // What a block says of the bees.
@@ -50,23 +49,20 @@ fn decide(power: f32, threshold: f32) -> Decision
 
 // The refusals of forward, and then that of a band that is none.
 fn lent_band(
-    plan: Record,
-    width: usize,
+    tables: Tables,
     input: &[f32],
     output: usize,
     scratch: usize,
-    stage: &[f32],
-    end: &[f32],
     lo: usize,
     hi: usize,
 ) -> Verdict
-    ensures { result ≡ hear_verdict plan width input.now output scratch stage.now end.now lo hi }
+    ensures { result ≡ hear_verdict tables.entry.plan tables.entry.width input.now output scratch tables.entry.stage_twiddles.now tables.entry.end_twiddles.now lo hi }
 {
-    lent_samples(plan, width, input, output, scratch, stage, end)?;
+    tables.lent_samples(input, output, scratch)?;
     if hi < lo {
         return Err(Refusal::Bins);
     }
-    if hi > plan.half {
+    if hi > tables.plan.half {
         return Err(Refusal::Bins);
     }
     Ok(())
@@ -74,44 +70,31 @@ fn lent_band(
 
 // The spectrum of n samples, the power of its bins lo to hi, and whether that is below the threshold.
 pub fn hear(
-    plan: Record,
-    width: usize,
+    tables: Tables,
     input: &[f32],
     output: &mut [f32],
     scratch: &mut [f32],
-    stage_twiddles: &[f32],
-    end_twiddles: &[f32],
     lo: usize,
     hi: usize,
     threshold: f32,
 ) -> Heard
-    ensures { Hears plan width stage_twiddles.now end_twiddles.now input.now lo hi threshold (output.old, scratch.old) result (output.new, scratch.new) }
+    ensures { Hears tables.entry.plan tables.entry.width tables.entry.stage_twiddles.now tables.entry.end_twiddles.now input.now lo hi threshold (output.old, scratch.old) result (output.new, scratch.new) }
 {
-    match lent_band(
-        plan,
-        width,
-        input,
-        output.len(),
-        scratch.len(),
-        stage_twiddles,
-        end_twiddles,
-        lo,
-        hi,
-    ) {
+    match lent_band(tables, input, output.len(), scratch.len(), lo, hi) {
         Ok(()) => {
             forward(
-                plan,
-                width,
+                tables.plan,
+                tables.width,
                 input,
                 output,
                 scratch,
-                stage_twiddles,
-                end_twiddles,
+                tables.stage_twiddles,
+                tables.end_twiddles,
             );
             let power = sum(output, lo, hi + 1 - lo);
             Heard {
                 verdict: Ok(()),
-                power: power,
+                power,
                 decision: decide(power, threshold),
             }
         }

@@ -15,6 +15,7 @@ use plan::Record;
 use radices::Radices;
 use refusal::{Refusal, Verdict, number, place};
 use scaling::Scaled;
+use spectrum::Tables;
 use turn::inner::words::Words;
 
 // What planning answers, with the refusal as two numbers.
@@ -394,15 +395,13 @@ pub extern "C" fn ladlespindle_forward(
 ) -> Answer
     ensures { GivesSpectrum plan width stage_twiddles.now end_twiddles.now input.now (output.old, scratch.old) result (output.new, scratch.new) }
 {
-    Answer::from(spectrum::forward(
+    let tables = Tables {
         plan,
         width,
-        input,
-        output,
-        scratch,
         stage_twiddles,
         end_twiddles,
-    ))
+    };
+    Answer::from(spectrum::forward(tables, input, output, scratch))
 }
 
 // The n samples of a spectrum, times n.
@@ -418,15 +417,13 @@ pub extern "C" fn ladlespindle_inverse(
 ) -> Answer
     ensures { GivesSamples plan width stage_twiddles.now end_twiddles.now input.now (output.old, scratch.old) result (output.new, scratch.new) }
 {
-    Answer::from(spectrum::inverse(
+    let tables = Tables {
         plan,
         width,
-        input,
-        output,
-        scratch,
         stage_twiddles,
         end_twiddles,
-    ))
+    };
+    Answer::from(spectrum::inverse(tables, input, output, scratch))
 }
 
 // The power of bins lo to hi of a spectrum.
@@ -464,18 +461,13 @@ pub extern "C" fn ladlespindle_hear(
 ) -> Heard
     ensures { GivesHeard plan width stage_twiddles.now end_twiddles.now input.now lo hi threshold (output.old, scratch.old) result (output.new, scratch.new) }
 {
-    let heard = hear::hear(
+    let tables = Tables {
         plan,
         width,
-        input,
-        output,
-        scratch,
         stage_twiddles,
         end_twiddles,
-        lo,
-        hi,
-        threshold,
-    );
+    };
+    let heard = hear::hear(tables, input, output, scratch, lo, hi, threshold);
     Heard {
         number: number(heard.verdict),
         place: place(heard.verdict),

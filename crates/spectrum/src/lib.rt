@@ -5,82 +5,53 @@ pub mod inner;
 
 ghost use Rattle.spectrum.specs.Calls.{Forwards, Inverts};
 
-use inner::check::{LOUDEST, is_bins, lent};
+use inner::check::is_bins;
 use plan::Record;
 use refusal::Verdict;
 use scan::inner::scan::CEILING;
 use transform::inner::directions;
 
+// What a transform goes by: its plan, and the twiddles of its stages and ends, packed for a width.
+#[derive(Clone, Copy)]
+pub struct Tables<'a> {
+    pub plan: Record,
+    pub width: usize,
+    pub stage_twiddles: &'a [f32],
+    pub end_twiddles: &'a [f32],
+}
+
 // The spectrum of n samples: bins 0 to n / 2.
-pub fn forward(
-    plan: Record,
-    width: usize,
-    input: &[f32],
-    output: &mut [f32],
-    scratch: &mut [f32],
-    stage_twiddles: &[f32],
-    end_twiddles: &[f32],
-) -> Verdict
-    ensures { Forwards plan width stage_twiddles.now end_twiddles.now input.now (output.old, scratch.old) result (output.new, scratch.new) }
+pub fn forward(tables: Tables, input: &[f32], output: &mut [f32], scratch: &mut [f32]) -> Verdict
+    ensures { Forwards tables.entry.plan tables.entry.width tables.entry.stage_twiddles.now tables.entry.end_twiddles.now input.now (output.old, scratch.old) result (output.new, scratch.new) }
 {
-    let is_input = input.len() == plan.n;
-    let is_output = is_bins(output.len(), plan.half);
-    lent(
-        plan,
-        width,
-        is_input,
-        is_output,
-        scratch.len(),
-        LOUDEST,
-        input,
-        stage_twiddles,
-        end_twiddles,
-    )?;
+    tables.lent_samples(input, output.len(), scratch.len())?;
     directions::forward(
-        plan,
-        width,
+        tables.plan,
+        tables.width,
         input,
         output,
         scratch,
-        stage_twiddles,
-        end_twiddles,
+        tables.stage_twiddles,
+        tables.end_twiddles,
     );
     Ok(())
 }
 
 // The n samples of a spectrum, times n, and +0 beyond.
-pub fn inverse(
-    plan: Record,
-    width: usize,
-    input: &[f32],
-    output: &mut [f32],
-    scratch: &mut [f32],
-    stage_twiddles: &[f32],
-    end_twiddles: &[f32],
-) -> Verdict
-    ensures { Inverts plan width stage_twiddles.now end_twiddles.now input.now (output.old, scratch.old) result (output.new, scratch.new) }
+pub fn inverse(tables: Tables, input: &[f32], output: &mut [f32], scratch: &mut [f32]) -> Verdict
+    ensures { Inverts tables.entry.plan tables.entry.width tables.entry.stage_twiddles.now tables.entry.end_twiddles.now input.now (output.old, scratch.old) result (output.new, scratch.new) }
 {
-    let is_input = is_bins(input.len(), plan.half);
-    let is_output = !(output.len() < plan.n);
-    lent(
-        plan,
-        width,
-        is_input,
-        is_output,
-        scratch.len(),
-        CEILING,
-        input,
-        stage_twiddles,
-        end_twiddles,
-    )?;
+    let is_input = is_bins(input.len(), tables.plan.half);
+    let is_output = !(output.len() < tables.plan.n);
+    tables.lent(is_input, is_output, scratch.len(), CEILING, input)?;
     directions::inverse(
-        plan,
-        width,
+        tables.plan,
+        tables.width,
         input,
         output,
         scratch,
-        stage_twiddles,
-        end_twiddles,
+        tables.stage_twiddles,
+        tables.end_twiddles,
     );
     Ok(())
 }

@@ -9,9 +9,9 @@ pub returns-then-hi-lo : goal.returns-then-hi-lo
 unfolding hear_verdict
 returns-then-hi-lo c = band_after _ _ _ _ _ _ (sym c.in_ok-lent_samples.was ∙ c.lent_samples.ensures) (search deciding)
 
-pub returns-then-hi-plan : goal.returns-then-hi-plan
+pub returns-then-hi-tables : goal.returns-then-hi-tables
 unfolding hear_verdict
-returns-then-hi-plan c = band_after _ _ _ _ _ _ (sym c.in_ok-lent_samples.was ∙ c.lent_samples.ensures) (search deciding)
+returns-then-hi-tables c = band_after _ _ _ _ _ _ (sym c.in_ok-lent_samples.was ∙ c.lent_samples.ensures) (search deciding)
 
 pub returns : goal.returns
 unfolding hear_verdict

@@ -7,7 +7,7 @@ use crate::inner::window::weigh;
 use hear::{Decision, hear};
 use plan::Record;
 use power::inner::sum::sum;
-use refusal::Verdict;
+use spectrum::Tables;
 
 // The power of a tone of full scale in blocks of n samples.
 pub fn full_scale(n: usize) -> f32
@@ -34,20 +34,20 @@ pub fn listen(
     ensures { Listens plan samples.old weights.now stage.now end.now lo hi threshold (spectrum.old, scratch.old) result samples.new (spectrum.new, scratch.new) }
 {
     weigh(samples, weights);
-    let heard = hear(
-        plan, 1, samples, spectrum, scratch, stage, end, lo, hi, threshold,
-    );
-    let verdict = heard.verdict;
-    match verdict {
-        Ok(()) => {
-            let decision = heard.decision;
-            Block {
-                verdict: Ok(()),
-                band: heard.power,
-                outside: beside(spectrum, lo, hi, plan.half),
-                decision,
-            }
-        }
+    let tables = Tables {
+        plan,
+        width: 1,
+        stage_twiddles: stage,
+        end_twiddles: end,
+    };
+    let heard = hear(tables, samples, spectrum, scratch, lo, hi, threshold);
+    match heard.verdict {
+        Ok(()) => Block {
+            verdict: Ok(()),
+            band: heard.power,
+            outside: beside(spectrum, lo, hi, plan.half),
+            decision: heard.decision,
+        },
         Err(why) => Block {
             verdict: Err(why),
             band: 0.0,

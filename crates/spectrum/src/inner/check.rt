@@ -1,11 +1,11 @@
 // Which plans, widths, lengths and numbers are taken.
-ghost use Rattle.std.specs.Prelude.{◌≡◌, ℕ, ◌+◌, ◌*◌, eqb};
+ghost use Rattle.std.specs.Prelude.{◌≡◌, ℕ, ◌+◌, ◌*◌, eqb, length};
 ghost use Rattle.scan.specs.Scan.{bound};
 ghost use Rattle.spectrum.specs.Calls.{size_verdict, number_verdict, lent_verdict, forward_verdict};
 
+use crate::Tables;
 use counts::inner::stages::{end_count, twiddle_start};
 use packing::inner::places::is_width;
-use plan::Record;
 use plan::inner::records::is_planned;
 use refusal::{Refusal, Verdict};
 use scan::inner::scan::first_unfit;
@@ -26,102 +26,76 @@ pub fn is_bins(words: usize, h: usize) -> bool
     words / 2 - 1 == h
 }
 
-// Refusals 5, 6 and 8, in this order: whether input and output have their lengths, and how many words the other slices have.
-fn sizes(
-    plan: Record,
-    width: usize,
-    input: bool,
-    output: bool,
-    scratch: usize,
-    stage: usize,
-    end: usize,
-) -> Verdict
-    ensures { result ≡ size_verdict plan width input output scratch stage end }
-{
-    if !is_planned(plan) {
-        return Err(Refusal::NotPlanned(0));
+impl Tables<'_> {
+    // Refusals 5, 6 and 8, in this order: whether input and output have their lengths, and how many words the scratch has.
+    fn sizes(self, input: bool, output: bool, scratch: usize) -> Verdict
+        ensures { result ≡ size_verdict self.entry.plan self.entry.width input output scratch (length self.entry.stage_twiddles.now) (length self.entry.end_twiddles.now) }
+    {
+        let plan = self.plan;
+        if !is_planned(plan) {
+            return Err(Refusal::NotPlanned(0));
+        }
+        if !is_width(self.width) {
+            return Err(Refusal::Width);
+        }
+        if !input {
+            return Err(Refusal::Length(0));
+        }
+        if !output {
+            return Err(Refusal::Length(1));
+        }
+        if scratch < 6 * plan.n {
+            return Err(Refusal::Length(2));
+        }
+        if self.stage_twiddles.len() != 2 * twiddle_start(plan, plan.count) {
+            return Err(Refusal::Length(3));
+        }
+        if self.end_twiddles.len() != 2 * end_count(plan.n) {
+            return Err(Refusal::Length(4));
+        }
+        Ok(())
     }
-    if !is_width(width) {
-        return Err(Refusal::Width);
-    }
-    if !input {
-        return Err(Refusal::Length(0));
-    }
-    if !output {
-        return Err(Refusal::Length(1));
-    }
-    if scratch < 6 * plan.n {
-        return Err(Refusal::Length(2));
-    }
-    if stage != 2 * twiddle_start(plan, plan.count) {
-        return Err(Refusal::Length(3));
-    }
-    if end != 2 * end_count(plan.n) {
-        return Err(Refusal::Length(4));
-    }
-    Ok(())
-}
 
-// Refusals 9 and 10, in this order, with so large a bound for the input.
-fn numbers(input: &[f32], most: f32, stage: &[f32], end: &[f32]) -> Verdict
-    ensures { (k : ℕ) → most ≡ bound k → result ≡ number_verdict k input.now stage.now end.now }
-{
-    let large = first_unfit(input, most);
-    if large < input.len() {
-        return Err(Refusal::Number(large));
+    // Refusals 9 and 10, in this order, with so large a bound for the input.
+    fn numbers(self, input: &[f32], most: f32) -> Verdict
+        ensures { (k : ℕ) → most ≡ bound k → result ≡ number_verdict k input.now self.entry.stage_twiddles.now self.entry.end_twiddles.now }
+    {
+        let large = first_unfit(input, most);
+        if large < input.len() {
+            return Err(Refusal::Number(large));
+        }
+        let wide = first_unfit(self.stage_twiddles, 1.0);
+        if wide < self.stage_twiddles.len() {
+            return Err(Refusal::Twiddle(wide));
+        }
+        let last = first_unfit(self.end_twiddles, 1.0);
+        if last < self.end_twiddles.len() {
+            return Err(Refusal::Twiddle(self.stage_twiddles.len() + last));
+        }
+        Ok(())
     }
-    let wide = first_unfit(stage, 1.0);
-    if wide < stage.len() {
-        return Err(Refusal::Twiddle(wide));
-    }
-    let last = first_unfit(end, 1.0);
-    if last < end.len() {
-        return Err(Refusal::Twiddle(stage.len() + last));
-    }
-    Ok(())
-}
 
-// The verdict of a transform.
-pub fn lent(
-    plan: Record,
-    width: usize,
-    is_input: bool,
-    is_output: bool,
-    scratch: usize,
-    most: f32,
-    input: &[f32],
-    stage: &[f32],
-    end: &[f32],
-) -> Verdict
-    ensures { (k : ℕ) → most ≡ bound k → result ≡ lent_verdict plan width is_input is_output scratch k input.now stage.now end.now }
-{
-    sizes(
-        plan,
-        width,
-        is_input,
-        is_output,
-        scratch,
-        stage.len(),
-        end.len(),
-    )?;
-    numbers(input, most, stage, end)
-}
+    // The verdict of a transform.
+    pub fn lent(
+        self,
+        is_input: bool,
+        is_output: bool,
+        scratch: usize,
+        most: f32,
+        input: &[f32],
+    ) -> Verdict
+        ensures { (k : ℕ) → most ≡ bound k → result ≡ lent_verdict self.entry.plan self.entry.width is_input is_output scratch k input.now self.entry.stage_twiddles.now self.entry.end_twiddles.now }
+    {
+        self.sizes(is_input, is_output, scratch)?;
+        self.numbers(input, most)
+    }
 
-// The verdict of `forward`, for callers that go on where it accepts: n samples of at most 2^32, and room for so many words.
-pub fn lent_samples(
-    plan: Record,
-    width: usize,
-    input: &[f32],
-    output: usize,
-    scratch: usize,
-    stage: &[f32],
-    end: &[f32],
-) -> Verdict
-    ensures { result ≡ forward_verdict plan width input.now output scratch stage.now end.now }
-{
-    let is_input = input.len() == plan.n;
-    let is_output = is_bins(output, plan.half);
-    lent(
-        plan, width, is_input, is_output, scratch, LOUDEST, input, stage, end,
-    )
+    // The verdict of `forward`, for callers that go on where it accepts: n samples of at most 2^32, and room for so many words.
+    pub fn lent_samples(self, input: &[f32], output: usize, scratch: usize) -> Verdict
+        ensures { result ≡ forward_verdict self.entry.plan self.entry.width input.now output scratch self.entry.stage_twiddles.now self.entry.end_twiddles.now }
+    {
+        let is_input = input.len() == self.plan.n;
+        let is_output = is_bins(output, self.plan.half);
+        self.lent(is_input, is_output, scratch, LOUDEST, input)
+    }
 }
