@@ -86,8 +86,7 @@ fn lent(rate: u32, samples: &[f32], file: usize) -> Verdict
     if file != 44 + 2 * n {
         return Verdict::Refused(Refusal::Length(1));
     }
-    let unfit = first_unfit(samples);
-    if unfit < n {
+    if let Some(unfit) = first_unfit(samples) {
         return Verdict::Refused(Refusal::Number(unfit));
     }
     Verdict::Accepted

@@ -19,10 +19,10 @@ pub returns-then-file-n : goal.returns-then-file-n
 unfolding write_verdict
 returns-then-file-n c = search deciding depth 20
 
-pub returns-then-unfit-n : goal.returns-then-unfit-n
+pub returns-in-Some : goal.returns-in-Some
 unfolding write_verdict
-returns-then-unfit-n c = search deciding depth 20
+returns-in-Some c = let unfit = c.in-Some.ensures in search (deciding, unfit.0, unfit.1) depth 20
 
 pub returns : goal.returns
 unfolding write_verdict
-returns c = search deciding depth 20
+returns c = let fit = c.in_default.ensures in search (deciding, fit) depth 20
