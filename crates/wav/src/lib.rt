@@ -69,8 +69,7 @@ fn lent(rate: u32, samples: &[f32], file: usize) -> Verdict
     if file != 44 + 2 * n {
         return Err(Refusal::Length(1));
     }
-    let unfit = first_unfit(samples);
-    if unfit < n {
+    if let Some(unfit) = first_unfit(samples) {
         return Err(Refusal::Number(unfit));
     }
     Ok(())

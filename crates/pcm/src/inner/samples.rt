@@ -1,5 +1,6 @@
 // A sample from two bytes and back, and all samples of a slice.
 ghost use Rattle.std.specs.Prelude.{◌≡◌, true, ◌+◌, ◌*◌, ◌≤◌, ◌<◌, length};
+ghost use Rattle.sequences.specs.Found.{Found};
 ghost use Rattle.sequences.specs.Lists.{pasted};
 ghost use Rattle.pcm.specs.Samples.{sample_of, fits as Samples·fits, word_of, samples_at, first_unfit, sample_bytes};
 
@@ -16,12 +17,9 @@ pub fn read_samples(bytes: &[u8], from: usize, output: &mut [f32])
     requires { from + 2 * length output.old ≤ length bytes.now }
     ensures { output.new ≡ samples_at bytes.now from (length output.old) }
 {
-    let n = output.len();
-    let mut i: usize = 0;
-    while i < n {
+    for (i, x) in output.iter_mut().enumerate() {
         let at = from + 2 * i;
-        output[i] = sample(bytes[at] as u32 + 256 * (bytes[at + 1] as u32));
-        i += 1;
+        *x = sample(bytes[at] as u32 + 256 * (bytes[at + 1] as u32));
     }
 }
 
@@ -40,21 +38,11 @@ fn fits(x: f32) -> bool
     v + 12582912.0 - 12582912.0 == v
 }
 
-// The index of the first sample that does not fit, or the length.
-pub fn first_unfit(xs: &[f32]) -> usize
-    ensures { result ≡ first_unfit xs.now }
+// The index of the first sample that does not fit.
+pub fn first_unfit(xs: &[f32]) -> Option<usize>
+    ensures { Found (length xs.now) (first_unfit xs.now) result }
 {
-    let mut i: usize = 0;
-    let place = loop {
-        if i >= xs.len() {
-            break xs.len();
-        }
-        if !fits(xs[i]) {
-            break i;
-        }
-        i += 1;
-    };
-    place
+    xs.iter().position(|&x| !fits(x))
 }
 
 // The two bytes of a sample that fits, as one number: 3 * 2^22 is a multiple of 65,536.
@@ -70,13 +58,10 @@ pub fn write_samples(xs: &[f32], bytes: &mut [u8], from: usize)
     requires { (from + 2 * length xs.now ≤ length bytes.old) × (length xs.now ≤ first_unfit xs.now) }
     ensures { bytes.new ≡ pasted bytes.old from (sample_bytes xs.now) }
 {
-    let n = xs.len();
-    let mut i: usize = 0;
-    while i < n {
-        let v = word(xs[i]);
+    for (i, &x) in xs.iter().enumerate() {
+        let v = word(x);
         let at = from + 2 * i;
         bytes[at] = (v % 256) as u8;
         bytes[at + 1] = (v / 256) as u8;
-        i += 1;
     }
 }

@@ -19,13 +19,11 @@ fn all_within(xs: &[f32], i: usize, b: f32) -> bool
 {
     let bb = b * b;
     let mut all = true;
-    let mut k: usize = 0;
-    while k < 64 {
+    for k in 0..64 {
         let x = xs[i + k];
         if !(x * x <= bb) {
             all = false;
         }
-        k += 1;
     }
     all
 }
@@ -34,19 +32,12 @@ fn all_within(xs: &[f32], i: usize, b: f32) -> bool
 fn passed(xs: &[f32], b: f32) -> usize
     ensures { (result ≤ length xs.now) × (SquaresTell b → Passed b xs.now result) }
 {
-    let mut i: usize = 0;
-    let mut left = xs.len() / 64;
-    let place = loop {
-        if left == 0 {
-            break i;
+    for block in 0..xs.len() / 64 {
+        if !all_within(xs, 64 * block, b) {
+            return 64 * block;
         }
-        if !all_within(xs, i, b) {
-            break i;
-        }
-        i += 64;
-        left -= 1;
-    };
-    place
+    }
+    xs.len() / 64 * 64
 }
 
 // The same, with the last numbers: these are looked at together with others before them, once more.
@@ -68,6 +59,7 @@ fn passed_to_end(xs: &[f32], b: f32) -> usize
 }
 
 // The index of the first number that is not within b, a power of two, or the length. Up to the ceiling, the largest bound in use, the squares tell.
+// The loop yields its place by break, a form that the project keeps one of.
 pub fn first_unfit(xs: &[f32], b: f32) -> usize
     ensures { (k : ℕ) → b ≡ bound k → result ≡ first_unfit k xs.now }
 {

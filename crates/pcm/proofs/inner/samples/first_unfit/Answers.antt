@@ -1,24 +1,15 @@
 -- `pcm::inner::samples::first_unfit` meets its contract. Assumes nothing.
-use Rattle.sequences.proofs.Basics.{sym, ap, ◌∙◌, zero-add, not, rules}
-use lib.Ieee.{Float, nan}
-use Rattle.sequences.proofs.First.{first_skip, first_here, first_none}
+use Rattle.sequences.proofs.Basics.{Bool, not, rules}
+use Rattle.std.proofs.Common.{tests}
+use Rattle.std.proofs.lemmas.Iterator.{YieldsList-from_slice}
+use Rattle.std.proofs.lemmas.Iterator.Search.{position_from_yields_List}
+use lib.Ieee.{Float}
+use Rattle.sequences.proofs.Found.{found_position}
 use Rattle.pcm.specs.Samples.{fits, first_unfit}
 use Rattle.pcm.proofs.inner.samples.first_unfit.Goals as goal
 
-pub loop-i-init : goal.loop-i-init
-loop-i-init c = (search rules, sym (zero-add _))
-
-pub loop-i-preserved : goal.loop-i-preserved
-loop-i-preserved c = let l = c.loop-i in let xs = c.args.xs.now in (
-  search rules,
-  first_skip nan (λ (x : Float). not (fits x)) xs l.i (search rules) (ap not (sym c.fits.ensures ∙ c.if-not-fits.false)) l.invariant.1,
-)
-
-pub returns-then-i-xs : goal.returns-then-i-xs
+pub returns : goal.returns
 unfolding first_unfit
-returns-then-i-xs c = sym (first_none _ _ c.loop-i.i (search rules) (search rules) c.loop-i.invariant.1)
-
-pub returns-then-not-fits : goal.returns-then-not-fits
-unfolding first_unfit
-returns-then-not-fits c = let l = c.loop-i in let xs = c.args.xs.now in
-    sym (first_here nan (λ (x : Float). not (fits x)) xs l.i (search rules) (ap not (sym c.fits.ensures ∙ c.if-not-fits.true)) l.invariant.1)
+returns c = let p : Float → Bool = λ x. not (fits x) in
+    found_position p c.args.xs.now c.position.result
+    (position_from_yields_List p _ _ c.position.result c.position.ensures.ran (YieldsList-from_slice c.args.xs.now c.iter.ensures.rest) (λ x b q k. search (rules, tests)))

@@ -7,9 +7,6 @@ use Rattle.little.proofs.Numbers.{number_two}
 use Rattle.pcm.specs.Samples.{sample_of, samples_at}
 use Rattle.pcm.proofs.inner.samples.read_samples.Goals as goal
 
-pub loop-i-init : goal.loop-i-init
-loop-i-init c = (search rules, search rules, λ k l. absurd (omega arith))
-
 pub overflow_cast-bytes : goal.overflow_cast-bytes
 overflow_cast-bytes c = let a = c.args in omega (arith, c.type_inv.bytes (a.from + 2 * c.loop-i.i))
 
@@ -28,14 +25,11 @@ sample-requires c = let at = c.args.from + 2 * c.loop-i.i in
     omega (arith, c.type_inv.bytes at, c.type_inv.bytes (at + 1))
 
 pub loop-i-preserved : goal.loop-i-preserved
-loop-i-preserved c = let l = c.loop-i in let a = c.args in (
-  search rules,
-  search rules,
-  set_more (λ (k : ℕ). sample_of (number_at 2 a.bytes.now (a.from + 2 * k))) l.output l.i _ nan (search rules)
-      (c.sample.ensures ∙ ap sample_of (sym (number_two a.bytes.now (a.from + 2 * l.i)))) l.invariant.2,
-)
+loop-i-preserved c = let l = c.loop-i in let a = c.args in
+    set_more (λ (k : ℕ). sample_of (number_at 2 a.bytes.now (a.from + 2 * k))) l.output l.i _ nan (search rules)
+    (c.sample.ensures ∙ ap sample_of (sym (number_two a.bytes.now (a.from + 2 * l.i)))) l.invariant
 
 pub returns : goal.returns
 unfolding samples_at
-returns c = let l = c.loop-i in let a = c.args in let e : l.i ≡ length a.output.now = omega (arith, l.invariant.0, c.loop-i-test.false) in
-    table_all (λ (k : ℕ). sample_of (number_at 2 a.bytes.now (a.from + 2 * k))) l.output _ nan l.invariant.1 (rw e at l.invariant.2)
+returns c = let l = c.loop-i in let a = c.args in let e : l.i ≡ length a.output.now = omega arith in
+    table_all (λ (k : ℕ). sample_of (number_at 2 a.bytes.now (a.from + 2 * k))) l.output _ nan (omega arith) (rw e at l.invariant)
