@@ -11,7 +11,7 @@ use Rattle.schedule.proofs.Cells.{index_lt}
 use Rattle.schedule.proofs.Fill.{wrote_as, done_iteration, same_block, next_block}
 use Rattle.schedule.proofs.Plans.{found_some, found_stride, found_blocks, found_whole, found_size, found_stage}
 use Rattle.powers.proofs.Powers.{power_none, next_power, power_power, below_mod}
-use Rattle.residues.specs.Parts.{kernel_of, read_of, output_of, Spread, Made, Reading, Writing, Staged, Workable}
+use Rattle.residues.specs.Parts.{Lent, kernel_of, read_of, output_of, Spread, Made, Reading, Writing, Staged, Workable}
 use Rattle.residues.specs.Residues.{residues, stage_of, Under}
 use Rattle.residues.proofs.Iteration.{all_under, column_output, lent_output}
 
@@ -44,60 +44,49 @@ module _ (m step s r : ℕ) (ps : 0 < s) where
 
 -- ---- what the iterations ask for
 
-module _ {m M s r : ℕ} {turns src : List ℕ} {room : ℕ} (h : Staged m M s r turns src room) where
+module _ {m M s r : ℕ} {src : List ℕ} {room : ℕ} (h : Staged m M s r src room) where
   room_few : M * r ≤ 4096 * 8
   room_few = mul-le-mul h.blocks.small h.blocks.few
 
   pub width_few : s * r ≤ 4096 * 8
   width_few = mul-le-mul h.blocks.narrow h.blocks.few
 
-  module _ (i : ℕ) (l : i < M) where
-    reading : (v : ℕ) → v < m → Reading m v M i r src
-    reading v lv =
+  module _ {step : ℕ} {turns : List ℕ} (lent : Lent m s step turns) {i block k v : ℕ} (w : Standing m step s r i block k v) where
+    pub reading : i < M → Reading m v M i r src
+    reading l =
         record {
-          modulus = h.modulus;
           some = h.blocks.some;
           few = h.blocks.few;
-          power = lv;
+          power = below_mod v _ m w.power (omega (arith, lent.modulus.two));
           cells = h.cells;
           reads = λ q lq. rw h.long (omega (arith, digits_lt lq l));
         }
 
-    writing : (to : ℕ) → to ≡ i / s * (s * r) + i % s → Writing m to s r turns room
+    pub writing : i < M → Writing (block + k) s r room
     unfolding index
-    writing to e =
+    writing l =
         let parts : M * r ≡ M / s * (s * r) = ap (λ (n : ℕ). n * r) h.blocks.whole ∙ omega arith in
+        let to : block + k ≡ i / s * (s * r) + i % s = ap₂ (λ (x y : ℕ). x + y) w.starts w.column in
         record {
-          modulus = h.modulus;
           some = omega (arith, h.blocks.some);
           few = h.blocks.few;
-          stride = h.blocks.stride;
-          turning = h.turning;
-          writes = λ p lp. rw (h.wide, e) (index_lt s r i p h.blocks.stride lp (M * r)
+          writes = λ p lp. rw (h.wide, to) (index_lt s r i p lent.stride lp (M * r)
               (M / s) parts (rw (mul-div_left M {n = r} (omega (arith, h.blocks.some))) l));
         }
 
-  module _ {step i block k v : ℕ} (w : Standing m step s r i block k v) where
-    pub one_asks : i < M → Reading m v M i r src × Writing m (block + k) s r turns room × (r ≡ 6 → ⊥)
-    one_asks l = (
-      reading i l v (below_mod v _ m w.power (omega (arith, h.modulus.two))),
-      writing i l (block + k) (ap₂ (λ (x y : ℕ). x + y) w.starts w.column),
-      h.blocks.other,
-    )
-
     -- the block is in the room
     pub block_few : i < M → block + k < 4096 * 8
-    block_few l = let x = (one_asks l).1 in omega (arith, x.writes 0 x.some, h.wide, room_few)
+    block_few l = let x = writing l in omega (arith, x.writes 0 x.some, h.wide, room_few)
 
     -- one more iteration is made
     pub made_next : (ys ys' : List ℕ) → Spread (λ p. p < r) (block + k) s (kernel_of m turns r (read_of m v M src i)) ys ys'
         → Made s r (output_of m step M s r src turns) ys i → Made s r (output_of m step M s r src turns) ys' (i + 1)
     unfolding index
-    made_next ys ys' x = done_iteration s r _ h.blocks.stride i (λ i' p l f. omega (arith, f))
+    made_next ys ys' x = done_iteration s r _ lent.stride i (λ i' p l f. omega (arith, f))
         (wrote_as (λ p l. (
           rw (w.starts, w.column),
           column_output m step M s r src turns (omega (arith, h.blocks.some))
-              (all_under m (omega (arith, h.modulus.two)) src h.cells) i p v w.power,
+              (all_under m (omega (arith, lent.modulus.two)) src h.cells) i p v w.power,
         )) x)
 
 -- ---- stage j of an accepted plan
@@ -113,13 +102,11 @@ module _ (p : Record) (j m w : ℕ) (src : List ℕ) (room : ℕ) (h : Workable 
   abbrev s : ℕ
   s = stride p.radices j
 
-  pub work_staged : (turns : List ℕ) → Under m 8 turns → Staged m (p.half / r) s r turns src room
-  work_staged turns under =
+  pub work_staged : Staged m (p.half / r) s r src room
+  work_staged =
       let size = found_size p h.planned j known in
       record {
-        modulus = h.modulus;
         blocks = record {
-          stride = found_stride p h.planned j known;
           some = (plan_radix_bounds p h.planned j known).0;
           few = (plan_radix_bounds p h.planned j known).1;
           other = λ e. six (ap is_radix (sym e) ∙ plan_radix p h.planned j known);
@@ -127,11 +114,14 @@ module _ (p : Record) (j m w : ℕ) (src : List ℕ) (room : ℕ) (h : Workable 
           small = omega (arith, div-le_self p.half r, plan_half p h.planned);
           narrow = stride_small p h.planned j (le_of_lt known);
         };
-        turning = under;
         cells = h.cells;
         long = h.long ∙ sym size;
         wide = h.wide ∙ sym size;
       }
+
+  -- what it is lent
+  pub work_lent : (step : ℕ) (turns : List ℕ) → step < m → Under m 8 turns → Lent m s step turns
+  work_lent step turns base turning = record { modulus = h.modulus; stride = found_stride p h.planned j known; base = base; turning = turning }
 
   -- all its iterations make the stage
   pub work_done : (step root : ℕ) (turns dst : List ℕ) → step ≡ w ^ (p.half / r / s) % m → root ≡ w ^ (p.half / r) % m

@@ -41,9 +41,15 @@ Spread T to s g ys ys' = Wrote T (λ p. to + p * s) g (cells ys) (cells ys')
 abbrev pub Made : (s r : ℕ) → (ℕ → ℕ → ℕ) → List ℕ → (n : ℕ) → Type 0
 Made s r v ys n = Done s r v (cells ys) (λ i p. i < n)
 
+-- what a stage is lent: a modulus, a stride, the power from one column to the next, and the powers that its kernel turns by
+pub record Lent (m s step : ℕ) (turns : List ℕ) : Type 0 where
+  pub modulus : Modulus m
+  pub stride : 0 < s
+  pub base : step < m
+  pub turning : Under m 8 turns
+
 -- what reading the cells of iteration i of M asks for
 pub record Reading (m v M i r : ℕ) (src : List ℕ) : Type 0 where
-  pub modulus : Modulus m
   pub some : 2 ≤ r
   pub few : r ≤ 8
   pub power : v < m
@@ -51,17 +57,13 @@ pub record Reading (m v M i r : ℕ) (src : List ℕ) : Type 0 where
   pub reads : (q : ℕ) → q < r → i + q * M < length src
 
 -- what writing outputs asks for, in a list of `room` cells
-pub record Writing (m to s r : ℕ) (turns : List ℕ) (room : ℕ) : Type 0 where
-  pub modulus : Modulus m
+pub record Writing (to s r room : ℕ) : Type 0 where
   pub some : 0 < r
   pub few : r ≤ 8
-  pub stride : 0 < s
-  pub turning : Under m 8 turns
   pub writes : (p : ℕ) → p < r → to + p * s < room
 
 -- M iterations of radix r are whole blocks of s
 pub record Blocks (M s r : ℕ) : Type 0 where
-  pub stride : 0 < s
   pub some : 2 ≤ r
   pub few : r ≤ 8
   pub other : r ≡ 6 → ⊥
@@ -70,10 +72,8 @@ pub record Blocks (M s r : ℕ) : Type 0 where
   pub narrow : s ≤ 4096
 
 -- what all iterations of a stage ask for
-pub record Staged (m M s r : ℕ) (turns src : List ℕ) (room : ℕ) : Type 0 where
-  pub modulus : Modulus m
+pub record Staged (m M s r : ℕ) (src : List ℕ) (room : ℕ) : Type 0 where
   pub blocks : Blocks M s r
-  pub turning : Under m 8 turns
   pub cells : Under m (length src) src
   pub long : length src ≡ M * r
   pub wide : room ≡ M * r

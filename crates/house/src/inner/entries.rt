@@ -20,16 +20,15 @@ pub fn unrounded(index: usize) -> Entry
     let quarter = index / 1680;
     let b = index % 1680;
     if b > 840 {
-        Entry {
+        return Entry {
             quarter,
             cosine: SINES[1680 - b],
             sine: COSINES[1680 - b],
-        }
-    } else {
-        Entry {
-            quarter,
-            cosine: COSINES[b],
-            sine: SINES[b],
-        }
+        };
+    }
+    Entry {
+        quarter,
+        cosine: COSINES[b],
+        sine: SINES[b],
     }
 }

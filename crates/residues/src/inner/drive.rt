@@ -13,27 +13,12 @@ fn drive(plan: Record, m: u64, w: u64, data: &mut [u32], scratch: &mut [u32])
     ensures data_after { «data».new ≡ (alternated (λ j. stage_of plan j m w) plan.count («data».old, scratch.old)).0 }
     ensures scratch_after { scratch.new ≡ (alternated (λ j. stage_of plan j m w) plan.count («data».old, scratch.old)).1 }
 {
-    let count = plan.count;
-    let mut k: usize = 0;
-    while k < count {
+    for k in 0..plan.count {
         if k % 2 == 0 {
             work(plan, k, m, w, data, scratch);
         } else {
             work(plan, k, m, w, scratch, data);
         }
-        k += 1;
-    }
-}
-
-// Every cell of src, into dst.
-fn copy(src: &[u32], dst: &mut [u32])
-    requires { length dst.old ≡ length src.now }
-    ensures { dst.new ≡ src.now }
-{
-    let mut i: usize = 0;
-    while i < src.len() {
-        dst[i] = src[i];
-        i += 1;
     }
 }
 
@@ -45,6 +30,6 @@ pub fn all(plan: Record, m: u64, w: u64, data: &mut [u32], scratch: &mut [u32])
 {
     drive(plan, m, w, data, scratch);
     if plan.count == 1 {
-        copy(scratch, data);
+        data.copy_from_slice(scratch);
     }
 }

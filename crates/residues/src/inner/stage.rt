@@ -1,140 +1,108 @@
 // A stage in remainders: the cells of each iteration are read and twiddled, and its outputs are made and written.
-ghost use Rattle.std.specs.Prelude.{◌≡◌, ℕ, ◌+◌, ◌*◌, ◌≤◌, ◌<◌, length, get_or};
+ghost use Rattle.std.specs.Prelude.{◌≡◌, ℕ, ◌≤◌, ◌<◌, length, get_or};
 ghost use Rattle.schedule.specs.Parts.{Every};
-ghost use Rattle.residues.specs.Parts.{Modulus, kernel_of, read_of, output_of, Spread, Made, Reading, Writing, Staged, Workable};
+ghost use Rattle.residues.specs.Parts.{Lent, kernel_of, read_of, output_of, Spread, Made, Reading, Writing, Staged, Workable};
 ghost use Rattle.residues.specs.Residues.{cells, stage_of, Under};
 
 use counts::inner::stages::stride;
 use plan::Record;
 use powers::inner::power::{power, powers};
 
-// What iteration i reads: for q below the radix cell i + q * apart, times v to the power q.
-fn cells(src: &[u32], i: usize, apart: usize, v: u64, r: usize, m: u64) -> [u64; 8]
-    requires { Reading m v apart i r src.now }
-    ensures { (q : ℕ) → q < r → get_or result q 0 ≡ read_of m v apart src.now i q }
-{
-    let x = src[i] as u64;
-    let mut c = [x; 8];
-    let mut power = v;
-    let mut q = 1;
-    while q < r {
-        c[q] = src[i + q * apart] as u64 * power % m;
-        power = power * v % m;
-        q += 1;
-    }
-    c
-}
-
-// Output p: cell 0, then plus each cell turned.
-fn output(c: [u64; 8], turns: [u64; 8], r: usize, p: usize, m: u64) -> u64
-    requires { Modulus m × (r ≤ 8) × (p < r) × Under m r c × Under m 8 turns }
-    ensures { (result < m) × (result ≡ kernel_of m turns r (cells c) p) }
-{
-    let mut sum = c[0];
-    let mut q = 1;
-    while q < r {
-        let t = p * q % r;
-        sum = (sum + c[q] * turns[t]) % m;
-        q += 1;
-    }
-    sum
-}
-
-// Every second output, from the first or the second on, written from `to` on, s apart.
-fn every(
-    c: [u64; 8],
-    turns: [u64; 8],
-    dst: &mut [u32],
-    to: usize,
-    s: usize,
-    r: usize,
-    b: usize,
-    m: u64,
-)
-    requires { Writing m to s r turns (length dst.old) × Under m r c × (b < 2) }
-    ensures { Spread (Every b r) to s (kernel_of m turns r (cells c)) dst.old dst.new }
-{
-    let mut p = b;
-    while p < r {
-        let y = output(c, turns, r, p, m);
-        dst[to + p * s] = y as u32;
-        p += 2;
-    }
-}
-
-// All outputs: the even ones, then the odd ones. Eight in one loop are more than the compiler writes out.
-fn spread(c: [u64; 8], turns: [u64; 8], dst: &mut [u32], to: usize, s: usize, r: usize, m: u64)
-    requires { Writing m to s r turns (length dst.old) × Under m r c }
-    ensures { Spread (λ p. p < r) to s (kernel_of m turns r (cells c)) dst.old dst.new }
-{
-    every(c, turns, dst, to, s, r, 0, m);
-    every(c, turns, dst, to, s, r, 1, m);
-}
-
-// Iteration i, its outputs written from `to` on, the radix written out so that the compiler sees it.
-fn one(
-    src: &[u32],
-    dst: &mut [u32],
-    i: usize,
-    to: usize,
-    s: usize,
-    apart: usize,
-    v: u64,
-    turns: [u64; 8],
-    r: usize,
-    m: u64,
-)
-    requires { Reading m v apart i r src.now × Writing m to s r turns (length dst.old) × (r ≡ 6 → ⊥) }
-    ensures { Spread (λ p. p < r) to s (kernel_of m turns r (read_of m v apart src.now i)) dst.old dst.new }
-{
-    if r < 4 {
-        if r == 2 {
-            spread(cells(src, i, apart, v, 2, m), turns, dst, to, s, 2, m);
-        } else {
-            spread(cells(src, i, apart, v, 3, m), turns, dst, to, s, 3, m);
-        }
-    } else if r < 6 {
-        if r == 4 {
-            spread(cells(src, i, apart, v, 4, m), turns, dst, to, s, 4, m);
-        } else {
-            spread(cells(src, i, apart, v, 5, m), turns, dst, to, s, 5, m);
-        }
-    } else if r == 7 {
-        spread(cells(src, i, apart, v, 7, m), turns, dst, to, s, 7, m);
-    } else {
-        spread(cells(src, i, apart, v, 8, m), turns, dst, to, s, 8, m);
-    }
-}
-
-// All iterations in turn: the column, its power and the block's start are stepped along, and the power starts anew with each block.
-fn iterations(
-    src: &[u32],
-    dst: &mut [u32],
-    s: usize,
+// A stage of so many iterations at a stride, the cells of each so far apart, in remainders modulo `modulus`: its kernel turns by the powers
+// `turns`, and from one column to the next it is `step`.
+#[derive(Clone, Copy)]
+struct Stage {
+    modulus: u64,
+    stride: usize,
     apart: usize,
     step: u64,
     turns: [u64; 8],
-    r: usize,
-    m: u64,
-)
-    requires { Staged m apart s r turns src.now (length dst.old) × (step < m) }
-    ensures { Made s r (output_of m step apart s r src.now turns) dst.new apart }
-{
-    let width = s * r;
-    let mut block: usize = 0;
-    let mut k: usize = 0;
-    let mut v: u64 = 1;
-    let mut i: usize = 0;
-    while i < apart {
-        one(src, dst, i, block + k, s, apart, v, turns, r, m);
-        i += 1;
-        k += 1;
-        if k == s {
-            block += width;
-            k = 0;
-            v = 1;
-        } else {
-            v = v * step % m;
+    ghost lent: { Lent modulus stride step turns },
+}
+
+// The radix R is a constant, so that the compiler writes out the loops over it.
+impl Stage {
+    // What iteration i reads: for q below the radix cell i + q * apart, times v to the power q.
+    fn cells<const R: usize>(&self, src: &[u32], i: usize, v: u64) -> [u64; R]
+        requires { Reading self.now.modulus v self.now.apart i R src.now }
+        ensures { (q : ℕ) → q < R → get_or result q 0 ≡ read_of self.now.modulus v self.now.apart src.now i q }
+    {
+        let mut cells = [src[i] as u64; R];
+        let mut power = v;
+        for q in 1..R {
+            cells[q] = src[i + q * self.apart] as u64 * power % self.modulus;
+            power = power * v % self.modulus;
+        }
+        cells
+    }
+
+    // Output p: cell 0, then plus each cell turned.
+    fn output<const R: usize>(&self, c: &[u64; R], p: usize) -> u64
+        requires { (R ≤ 8) × (p < R) × Under self.now.modulus R c.now }
+        ensures { (result < self.now.modulus) × (result ≡ kernel_of self.now.modulus self.now.turns R (cells c.now) p) }
+    {
+        let mut sum = c[0];
+        for q in 1..R {
+            sum = (sum + c[q] * self.turns[p * q % R]) % self.modulus;
+        }
+        sum
+    }
+
+    // Every second output, from the first or the second on, written from `to` on, a stride apart.
+    fn every<const R: usize>(&self, c: &[u64; R], b: usize, to: usize, dst: &mut [u32])
+        requires { Writing to self.now.stride R (length dst.old) × Under self.now.modulus R c.now × (b < 2) }
+        ensures { Spread (Every b R) to self.now.stride (kernel_of self.now.modulus self.now.turns R (cells c.now)) dst.old dst.new }
+    {
+        for p in (b..R).step_by(2) {
+            dst[to + p * self.stride] = self.output(c, p) as u32;
+        }
+    }
+
+    // Iteration i, its outputs written from `to` on: the even ones, then the odd ones. Eight in one loop are more than the compiler writes out.
+    fn iteration<const R: usize>(&self, src: &[u32], i: usize, v: u64, to: usize, dst: &mut [u32])
+        requires { Reading self.now.modulus v self.now.apart i R src.now × Writing to self.now.stride R (length dst.old) }
+        ensures { Spread (λ p. p < R) to self.now.stride (kernel_of self.now.modulus self.now.turns R (read_of self.now.modulus v self.now.apart src.now i)) dst.old dst.new }
+    {
+        let c = self.cells::<R>(src, i, v);
+        self.every(&c, 0, to, dst);
+        self.every(&c, 1, to, dst);
+    }
+
+    // All iterations in turn: the column, its power and the block's start are stepped along, and the power starts anew with each block.
+    // A loop for each block takes a fifth more instructions at radix 2.
+    fn iterations<const R: usize>(&self, src: &[u32], dst: &mut [u32])
+        requires { Staged self.now.modulus self.now.apart self.now.stride R src.now (length dst.old) }
+        ensures { Made self.now.stride R (output_of self.now.modulus self.now.step self.now.apart self.now.stride R src.now self.now.turns) dst.new self.now.apart }
+    {
+        let width = self.stride * R;
+        let mut block = 0;
+        let mut column = 0;
+        let mut v = 1;
+        for i in 0..self.apart {
+            self.iteration::<R>(src, i, v, block + column, dst);
+            column += 1;
+            if column == self.stride {
+                block += width;
+                column = 0;
+                v = 1;
+            } else {
+                v = v * self.step % self.modulus;
+            }
+        }
+    }
+
+    // All iterations at a radix, which is written out.
+    fn run(&self, radix: usize, src: &[u32], dst: &mut [u32])
+        requires { Staged self.now.modulus self.now.apart self.now.stride radix src.now (length dst.old) }
+        ensures { Made self.now.stride radix (output_of self.now.modulus self.now.step self.now.apart self.now.stride radix src.now self.now.turns) dst.new self.now.apart }
+    {
+        match radix {
+            2 => self.iterations::<2>(src, dst),
+            3 => self.iterations::<3>(src, dst),
+            4 => self.iterations::<4>(src, dst),
+            5 => self.iterations::<5>(src, dst),
+            7 => self.iterations::<7>(src, dst),
+            _ => self.iterations::<8>(src, dst),
         }
     }
 }
@@ -150,5 +118,12 @@ pub fn work(plan: Record, j: usize, m: u64, w: u64, src: &[u32], dst: &mut [u32]
     let step = power(w, (apart / s) as u64, m);
     let root = power(w, apart as u64, m);
     let turns = powers(root, m);
-    iterations(src, dst, s, apart, step, turns, r, m);
+    let stage = Stage {
+        modulus: m,
+        stride: s,
+        apart,
+        step,
+        turns,
+    };
+    stage.run(r, src, dst);
 }

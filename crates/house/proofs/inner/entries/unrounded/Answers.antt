@@ -8,6 +8,6 @@ pub returns-then-b-gt840 : goal.returns-then-b-gt840
 unfolding plain exchanged cosines sines
 returns-then-b-gt840 c = entry_exchanged c.args.index c.if-b-gt840.true
 
-pub returns-else-b-gt840 : goal.returns-else-b-gt840
+pub returns : goal.returns
 unfolding plain exchanged cosines sines
-returns-else-b-gt840 c = entry_plain c.args.index c.if-b-gt840.false
+returns c = entry_plain c.args.index c.if-b-gt840.false

@@ -9,32 +9,36 @@ use Rattle.residues.proofs.inner.drive.drive.Goals.{then-k-eq0, else-k-eq0}
 
 pub loop-k-init : goal.loop-k-init
 unfolding alternated
-loop-k-init c = (omega arith, (refl, refl))
+loop-k-init c = (refl, refl)
 
 pub work-requires : goal.work-requires
 work-requires c = let l = c.loop-k in
-    even_workable c.args.scratch.now c.requires l.«data» l.scratch l.k l.invariant.1 c.loop-k-test.true c.if-k-eq0.true
+    even_workable c.args.scratch.now c.requires l.«data» l.scratch l.k l.invariant c.loop-k-test.true c.if-k-eq0.true
 
 pub work-requires-else-k-eq0 : goal.work-requires-else-k-eq0
 work-requires-else-k-eq0 c = let l = c.loop-k in
-    odd_workable c.args.scratch.now c.requires l.«data» l.scratch l.k l.invariant.1 c.loop-k-test.true c.if-k-eq0.false
+    odd_workable c.args.scratch.now c.requires l.«data» l.scratch l.k l.invariant c.loop-k-test.true c.if-k-eq0.false
 
 pub loop-k-preserved : goal.loop-k-preserved
-loop-k-preserved c = let a = c.args in let l = c.loop-k in let f : ℕ → List ℕ → List ℕ = λ j. stage_of a.plan j a.m a.w in
-    let b : Two ℕ = (a.«data».now, a.scratch.now) in (
-      omega (arith, c.loop-k-test.true),
-      elim c.if-k-eq0.branch [
-        | then-k-eq0 w ↦ even_next f b l.k l.«data» l.scratch _ _ w.if-k-eq0.true l.invariant.1.0 w.data-is (w.scratch-is ∙ w.work.ensures)
-        | else-k-eq0 w ↦ odd_next f b l.k l.«data» l.scratch _ _ w.if-k-eq0.false l.invariant.1.1 (w.data-is ∙ w.work-else-k-eq0.ensures) w.scratch-is
-      ],
-    )
+loop-k-preserved c =
+    let a = c.args in
+    let l = c.loop-k in
+    let f : ℕ → List ℕ → List ℕ = λ j. stage_of a.plan j a.m a.w in
+    let b : Two ℕ = (a.«data».now, a.scratch.now) in
+    elim c.if-k-eq0.branch [
+      | then-k-eq0 w ↦ even_next f b l.k l.«data» l.scratch _ _ w.if-k-eq0.true l.invariant.0 w.data-is (w.scratch-is ∙ w.work.ensures)
+      | else-k-eq0 w ↦ odd_next f b l.k l.«data» l.scratch _ _ w.if-k-eq0.false l.invariant.1 (w.data-is ∙ w.work-else-k-eq0.ensures) w.scratch-is
+    ]
 
 pub shape_of-data : goal.shape_of-data
-shape_of-data c = let l = c.loop-k in (as_long c.args.scratch.now c.requires l.«data» l.scratch l.k l.invariant.1).0 ∙ sym c.requires.long
+shape_of-data c = let l = c.loop-k in (as_long c.args.scratch.now c.requires l.«data» l.scratch l.k l.invariant).0 ∙ sym c.requires.long
 
 pub shape_of-scratch : goal.shape_of-scratch
-shape_of-scratch c = let l = c.loop-k in (as_long c.args.scratch.now c.requires l.«data» l.scratch l.k l.invariant.1).1 ∙ sym c.requires.wide
+shape_of-scratch c = let l = c.loop-k in (as_long c.args.scratch.now c.requires l.«data» l.scratch l.k l.invariant).1 ∙ sym c.requires.wide
 
 pub returns : goal.returns
-returns c = let l = c.loop-k in let e : l.k ≡ c.args.plan.count = omega (arith, l.invariant.0, c.loop-k-test.false) in
-    let both = rw e at l.invariant.1 in record { data_after = both.0; scratch_after = both.1 }
+returns c =
+    let l = c.loop-k in
+    let e : l.k ≡ c.args.plan.count = omega arith in
+    let both = rw e at l.invariant in
+    record { data_after = both.0; scratch_after = both.1 }
