@@ -1,7 +1,6 @@
--- The steps of either direction as they are taken: the inverse's with the conjugation that follows them. Assumes nothing.
-use Rattle.std.specs.Prelude.{Bool, cond}
+-- The inverse's steps as they are taken, with the conjugation that follows them. Assumes nothing.
 use Rattle.floats.specs.Complexes.{conjugate}
-use Rattle.mixing.specs.Steps.{Steps, fft_steps, ifft_steps}
+use Rattle.mixing.specs.Steps.{Steps}
 
 -- the same steps, every cell but h conjugated
 abbrev pub conjugating : Steps → Steps
@@ -13,7 +12,3 @@ conjugating s =
       far = λ a b t. conjugate (s.far a b t);
       centre = λ c. conjugate (s.centre c);
     }
-
--- those of either direction, the inverse's with the conjugation that follows them
-abbrev pub steps_of : (forward : Bool) → Steps
-steps_of forward = cond forward fft_steps (conjugating ifft_steps)

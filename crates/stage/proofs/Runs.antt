@@ -1,8 +1,10 @@
 -- Laws of a run: its stages find what they ask for, and leave what the definition states. Assumes nothing.
-use Rattle.sequences.proofs.Basics.{◌≡◌, sym, ap, ◌∙◌, ℕ, ◌+◌, ◌-◌, ◌*◌, ◌%◌, ◌≤◌, ◌<◌, arith, List, length, take, drop, length-drop, length-take-le}
+use Rattle.sequences.proofs.Basics.{◌≡◌, sym, ap, ◌∙◌, ℕ, ◌+◌, ◌-◌, ◌*◌, ◌%◌, ◌≤◌, ◌<◌, arith, true, List, length, take, drop, length-drop, length-take-le}
 use lib.Ieee.{Float}
 use Rattle.counts.specs.Counts.{radix, stride, twiddle_count, twiddle_start, stage_twiddles}
 use Rattle.plan.specs.declared.Record.{Record}
+use Rattle.plan.specs.Record.{is_planned}
+use Rattle.packing.specs.Places.{is_width}
 use Rattle.counts.proofs.Counts.{start_next, start_up}
 use Rattle.schedule.specs.Buffers.{Two, alternated, driven}
 use Rattle.schedule.specs.Plans.{in_use}
@@ -34,16 +36,17 @@ pub own_length : (p : Record) (k : ℕ) (tw : List Float) → k < p.count → le
 own_length p k tw l e = length-take-le _ _ (omega (arith, length-drop (2 * twiddle_start p.half p.radices k) tw, own_within p k l, e))
 
 -- what a stage of a run hands to its work
-module _ (p : Record) (k W ns nd start : ℕ) (tw own : List Float) (h : Steppable p k W ns nd (length tw) start) (same : own ≡ own_of p tw k) where
+module _ (p : Record) (k W ns nd start : ℕ) (tw own : List Float) (planned : is_planned p ≡ true) (packed : is_width W ≡ true)
+    (lent : length tw ≡ 2 * stage_twiddles p) (h : Steppable p k ns nd start) (same : own ≡ own_of p tw k) where
   pub step_workable : Workable p k W ns (length own) nd
   step_workable =
       record {
-        planned = h.planned;
+        planned = planned;
         known = h.known;
-        width = h.width;
+        width = packed;
         source = h.source;
         target = h.target;
-        lent = ap length same ∙ own_length p k tw h.known h.lent;
+        lent = ap length same ∙ own_length p k tw h.known lent;
       }
 
   pub step_made : (xs ys : List Float) → ys ≡ stage_of p k W own xs → ys ≡ stage_in p W tw k xs
@@ -54,14 +57,8 @@ unfolding stage_of stage
 length_made p j W tw xs = length_flat _ ∙ ap (λ (n : ℕ). 2 * n) (length_stage _ _ j p.half (stride (in_use p) j) (radix (in_use p) j) _)
 
 -- buffers as long serve as well
-pub drivable_as : {p : Record} {W nd ns nt nd' ns' : ℕ} → Drivable p W nd ns nt → nd' ≡ nd → ns' ≡ ns → Drivable p W nd' ns' nt
+pub drivable_as : {p : Record} {nd ns nd' ns' : ℕ} → Drivable p nd ns → nd' ≡ nd → ns' ≡ ns → Drivable p nd' ns'
 drivable_as h ed es = rw (ed, es) h
-
-module _ {p : Record} {W nd ns nt : ℕ} (h : Drivable p W nd ns nt) where
-  pub steppable : (k : ℕ) → k < p.count → (read written start : ℕ) → read ≡ 2 * p.half → written ≡ 2 * p.half → start ≡ twiddle_start p.half p.radices k
-      → Steppable p k W read written nt start
-  steppable k l read written start es ed et =
-      record { planned = h.planned; known = l; width = h.width; source = es; target = ed; lent = h.lent; starts = et }
 
 -- ---- the stages after the first
 

@@ -47,20 +47,14 @@ Alike p W W' tw tw' = AgreeAll p (lent_to p W tw) (lent_to p W' tw')
 
 -- ---- what the driver asks for
 
--- what the driver asks of a plan, a width, two buffers and the twiddles of all stages, of so many words
-pub record Drivable (p : Record) (W nd ns nt : ℕ) : Type 0 where
-  pub planned : is_planned p ≡ true
-  pub width : is_width W ≡ true
+-- what the driver asks of two buffers, of so many words, for the stages of an accepted plan
+pub record Drivable (p : Record) (nd ns : ℕ) : Type 0 where
   pub long : nd ≡ 2 * p.half
   pub wide : ns ≡ 2 * p.half
-  pub lent : nt ≡ 2 * stage_twiddles p
 
 -- what one stage of it asks, whose twiddles start at `start`
-pub record Steppable (p : Record) (k W ns nd nt start : ℕ) : Type 0 where
-  pub planned : is_planned p ≡ true
+pub record Steppable (p : Record) (k ns nd start : ℕ) : Type 0 where
   pub known : k < p.count
-  pub width : is_width W ≡ true
   pub source : ns ≡ 2 * p.half
   pub target : nd ≡ 2 * p.half
-  pub lent : nt ≡ 2 * stage_twiddles p
   pub starts : start ≡ twiddle_start p.half p.radices k

@@ -28,37 +28,38 @@ struct Row<'a> {
     h: usize,
 }
 
-// What at most 32 pairs become: the near cells in order, and the far ones from the last back.
-#[derive(Drop)]
-struct Made {
-    ahead: [f32; 64],
-    back: [f32; 64],
-}
-
 impl<'a> Row<'a> {
-    // The pairs k to k + len, one way.
-    fn batch<D: Direction>(self, made: &mut Made, k: usize, len: usize)
+    // The pairs k to k + len, one way: their near cells to `ahead`, and their far cells to the end of `back`, the last pair's first. The two are apart,
+    // and no struct: the compiler makes vectors only of writes to arrays that it sees to be different ones.
+    fn batch<D: Direction>(self, ahead: &mut [f32; 64], back: &mut [f32; 64], k: usize, len: usize)
         requires { Batchable self.h k len (length self.cells.now) (length self.twiddles.now) }
-        ensures { (length made.new.ahead ≡ 64) × (length made.new.back ≡ 64) × Batched D.steps self.entry.h self.entry.twiddles.now self.entry.cells.now k len made.new.ahead made.new.back }
+        ensures { (length ahead.new ≡ 64) × (length back.new ≡ 64) × Batched D.steps self.entry.h self.entry.twiddles.now self.entry.cells.now k len ahead.new back.new }
     {
         for j in 0..len {
             let a = get(self.cells, k + j);
             let b = get(self.cells, self.h - k - j);
             let t = get(self.twiddles, k + j - 1);
-            put(&mut made.ahead, j, D::near(a, b, t));
-            put(&mut made.back, 31 - j, D::far(a, b, t));
+            put(ahead, j, D::near(a, b, t));
+            put(back, 31 - j, D::far(a, b, t));
         }
     }
 
     // The same, put in their places of the other slice.
-    fn step<D: Direction>(self, made: &mut Made, out: &mut [f32], k: usize, len: usize)
+    fn step<D: Direction>(
+        self,
+        ahead: &mut [f32; 64],
+        back: &mut [f32; 64],
+        out: &mut [f32],
+        k: usize,
+        len: usize,
+    )
         requires { Batchable self.h k len (length self.cells.now) (length self.twiddles.now) × (length out.old ≡ 2 * (self.h + 1)) }
         ensures { Stepped D.steps self.entry.h self.entry.twiddles.now self.entry.cells.now out.old k → Stepped D.steps self.entry.h self.entry.twiddles.now self.entry.cells.now out.new (k + len) }
     {
-        self.batch::<D>(made, k, len);
+        self.batch::<D>(ahead, back, k, len);
         let words = 2 * len;
-        paste(&made.ahead[..words], out, 2 * k);
-        paste(&made.back[64 - words..], out, 2 * (self.h - k - len + 1));
+        paste(&ahead[..words], out, 2 * k);
+        paste(&back[64 - words..], out, 2 * (self.h - k - len + 1));
     }
 
     // Every pair of cells k and h - k, one way, 32 pairs at a time; answers the number past the last.
@@ -66,15 +67,13 @@ impl<'a> Row<'a> {
         requires { Endable self.h (length out.old) (length self.twiddles.now) × (2 * self.h ≤ length self.cells.now) }
         ensures { (self.entry.h ≤ 2 * result) × (result ≤ 4096) × (Stepped D.steps self.entry.h self.entry.twiddles.now self.entry.cells.now out.old 1 → Stepped D.steps self.entry.h self.entry.twiddles.now self.entry.cells.now out.new result) }
     {
-        let mut made = Made {
-            ahead: [0.0; 64],
-            back: [0.0; 64],
-        };
+        let mut ahead = [0.0; 64];
+        let mut back = [0.0; 64];
         let end = (self.h + 1) / 2;
         let mut k = 1;
         while k < end {
             let len = (end - k).min(32);
-            self.step::<D>(&mut made, out, k, len);
+            self.step::<D>(&mut ahead, &mut back, out, k, len);
             k += len;
         }
         k

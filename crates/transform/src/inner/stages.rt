@@ -15,7 +15,7 @@ use ends::inner::cells::{postprocess_fft, preprocess_ifft};
 use floats::inner::words::paste;
 use plan::Record;
 use scratch::inner::restoring::{from_data, from_pad};
-use stage::inner::drive::{all, all_from, held};
+use stage::inner::drive::{Stages, held};
 
 // All stages, with what the first one reads lent apart, as if Data held it, and what they leave in Data and in the Scratchpad; answers which of
 // them holds the result.
@@ -32,14 +32,12 @@ pub fn stages_from(
     ensures scratch_after { scratch.new ≡ with_both plan.half (run_of plan width twiddles.now (input.now, pad_of plan.half scratch.old)) scratch.old }
 {
     let words = 2 * plan.half;
-    let which = all_from(
+    let stages = Stages {
         plan,
         width,
-        input,
-        &mut scratch[..words],
-        &mut other[..words],
         twiddles,
-    );
+    };
+    let which = stages.all_from(input, &mut scratch[..words], &mut other[..words]);
     if plan.count > 0 {
         paste(&other[..words], scratch, words);
     }
@@ -79,14 +77,12 @@ pub fn invert(plan: Record, width: usize, scratch: &mut [f32], output: &mut [f32
     ensures output_after { output.new ≡ (restored plan.half (result_in plan.count) (run_of plan width twiddles.now (data_of plan.half scratch.old, pad_of plan.half scratch.old))).0 ++ drop (2 * plan.half) output.old }
 {
     let words = 2 * plan.half;
-    let which = all(
+    let stages = Stages {
         plan,
         width,
-        &mut scratch[..words],
-        &mut output[..words],
         twiddles,
-    );
-    match which {
+    };
+    match stages.all(&mut scratch[..words], &mut output[..words]) {
         Buffer::Data => from_data(scratch, output, plan.half, plan.count > 0),
         Buffer::Scratchpad => from_pad(scratch, output, plan.half),
     }

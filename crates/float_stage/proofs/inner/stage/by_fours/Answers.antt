@@ -32,55 +32,55 @@ lent-requires c =
     let there = past_room c.loop-i.i a.m a.r _ (omega (arith, c.requires.5, c.loop-i.invariant.1.fits)) c.requires.1 in
     omega (arith, c.first_word.ensures, there)
 
-pub lanes4-requires : goal.lanes4-requires
-lanes4-requires c =
+pub lanes-requires : goal.lanes-requires
+lanes-requires c =
     let a = c.args in
-    let n = c.least-len in
-    let four : n.result ≡ 4 = c.least-len.ensures.4 (omega (arith, c.loop-i-test.true, c.loop-i.invariant.0, c.requires.6)) in
-    let fits : c.loop-i.i + n.result ≤ a.end = omega (arith, n.ensures.0, c.loop-i-test.true) in
+    let n = c.min-len in
+    let four : n.result ≡ 4 = omega (arith, c.loop-i-test.true, c.loop-i.invariant.0, c.requires.6) in
+    let fits : c.loop-i.i + n.result ≤ a.end = omega arith in
     let part =
     four_part c.loop-i.i n.result a.m a.r a.tw.now _ c.first_word.ensures (c.lent.ensures.0 refl) c.loop-i.invariant.0 four
     (omega (arith, fits, c.requires.5)) c.requires.1 in
-    (c.requires.0, omega (arith, fits, c.requires.5), n.ensures.1, part.1, c.loop-i.invariant.1.pairs, c.requires.7)
+    (c.requires.0, omega (arith, fits, c.requires.5), omega arith, omega arith, part.1, c.loop-i.invariant.1.pairs, c.requires.7)
 
-pub store4-at-requires : goal.store4-at-requires
-store4-at-requires c =
+pub store-at-requires : goal.store-at-requires
+store-at-requires c =
     let a = c.args in
-    let n = c.least-len in
-    let four : n.result ≡ 4 = c.least-len.ensures.4 (omega (arith, c.loop-i-test.true, c.loop-i.invariant.0, c.requires.6)) in
-    let fits : c.loop-i.i + n.result ≤ a.end = omega (arith, n.ensures.0, c.loop-i-test.true) in
+    let n = c.min-len in
+    let four : n.result ≡ 4 = omega (arith, c.loop-i-test.true, c.loop-i.invariant.0, c.requires.6) in
+    let fits : c.loop-i.i + n.result ≤ a.end = omega arith in
     let even = even_fours a.even a.s n.result c.requires.4 (omega (arith, four)) in
-    round_asks n.result c.loop-i.invariant.1 even c.lanes4.ensures.0 c.requires.2 c.requires.3 c.requires.4
-    (omega (arith, fits, c.requires.5)) (omega (arith, n.ensures.1))
+    round_asks n.result c.loop-i.invariant.1 even c.lanes.ensures.0 c.requires.2 c.requires.3 c.requires.4
+    (omega (arith, fits, c.requires.5)) (omega arith) (omega arith)
 
 pub overflow_add-i : goal.overflow_add-i
 overflow_add-i c =
     let a = c.args in
-    let n = c.least-len in
-    let fits : c.loop-i.i + n.result ≤ a.end = omega (arith, n.ensures.0, c.loop-i-test.true) in
+    let n = c.min-len in
+    let fits : c.loop-i.i + n.result ≤ a.end = omega arith in
     omega (arith, fits)
 
 pub loop-i-smaller : goal.loop-i-smaller
 loop-i-smaller c =
     let a = c.args in
-    let n = c.least-len in
-    let four : n.result ≡ 4 = c.least-len.ensures.4 (omega (arith, c.loop-i-test.true, c.loop-i.invariant.0, c.requires.6)) in
-    let fits : c.loop-i.i + n.result ≤ a.end = omega (arith, n.ensures.0, c.loop-i-test.true) in
+    let n = c.min-len in
+    let four : n.result ≡ 4 = omega (arith, c.loop-i-test.true, c.loop-i.invariant.0, c.requires.6) in
+    let fits : c.loop-i.i + n.result ≤ a.end = omega arith in
     omega (arith, four, fits)
 
 pub loop-i-preserved : goal.loop-i-preserved
 loop-i-preserved c =
     let a = c.args in
-    let n = c.least-len in
-    let four : n.result ≡ 4 = c.least-len.ensures.4 (omega (arith, c.loop-i-test.true, c.loop-i.invariant.0, c.requires.6)) in
-    let fits : c.loop-i.i + n.result ≤ a.end = omega (arith, n.ensures.0, c.loop-i-test.true) in
+    let n = c.min-len in
+    let four : n.result ≡ 4 = omega (arith, c.loop-i-test.true, c.loop-i.invariant.0, c.requires.6) in
+    let fits : c.loop-i.i + n.result ≤ a.end = omega arith in
     let even = even_fours a.even a.s n.result c.requires.4 (omega (arith, four)) in
     let part =
     four_part c.loop-i.i n.result a.m a.r a.tw.now _ c.first_word.ensures (c.lent.ensures.0 refl) c.loop-i.invariant.0 four
     (omega (arith, fits, c.requires.5)) c.requires.1 in (
       omega (arith, four, c.loop-i.invariant.0),
-      round_next n.result c.loop-i.invariant.1 even c.lanes4.ensures.0 fits c.store4-at.auto.dst c.store4-at.ensures
-          (c.lanes4.ensures.1 _ part.0),
+      round_next n.result c.loop-i.invariant.1 even c.lanes.ensures.0 fits c.store-at.auto.dst c.store-at.ensures
+          (c.lanes.ensures.1 _ part.0),
     )
 
 pub shape_of-dst : goal.shape_of-dst

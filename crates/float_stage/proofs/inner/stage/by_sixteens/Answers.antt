@@ -22,9 +22,9 @@ loop-i-init c =
 pub fetch-requires : goal.fetch-requires
 fetch-requires c =
     let a = c.args in
-    let n = c.least-len in
-    let fits : c.loop-i.i + n.result ≤ a.m = omega (arith, n.ensures.0, c.loop-i-test.true) in
-    (rw c.loop-i.invariant.0 c.requires.1, c.laid_out-layout.ensures.1, fits, n.ensures.1)
+    let n = c.min-len in
+    let fits : c.loop-i.i + n.result ≤ a.m = omega arith in
+    (rw c.loop-i.invariant.0 c.requires.1, c.laid_out-layout.ensures.1, fits, omega arith)
 
 pub slice_bounds-lent-end : goal.slice_bounds-lent-end
 slice_bounds-lent-end c = sym (c.fetch.auto.t ∙ c.loop-i.invariant.0)
@@ -44,45 +44,45 @@ lent-requires c =
 pub lanes-requires : goal.lanes-requires
 lanes-requires c =
     let a = c.args in
-    let n = c.least-len in
-    let fits : c.loop-i.i + n.result ≤ a.m = omega (arith, n.ensures.0, c.loop-i-test.true) in
+    let n = c.min-len in
+    let fits : c.loop-i.i + n.result ≤ a.m = omega arith in
     let part =
     lent_part c.laid_out-layout.result c.loop-i.i n.result a.m a.r a.w a.tw.now _ _ c.first_word.ensures c.laid_out-layout.ensures.0
-    c.loop-i.invariant.1 fits n.ensures.1 c.requires.0.few c.requires.1.lent (c.fetch.auto.t ∙ c.loop-i.invariant.0) c.lent.ensures c.fetch.ensures in
-    (c.requires.0, fits, n.ensures.1, part.1, c.loop-i.invariant.2.pairs, c.requires.1.later)
+    c.loop-i.invariant.1 fits (omega arith) c.requires.0.few c.requires.1.lent (c.fetch.auto.t ∙ c.loop-i.invariant.0) c.lent.ensures c.fetch.ensures in
+    (c.requires.0, fits, omega arith, omega arith, part.1, c.loop-i.invariant.2.pairs, c.requires.1.later)
 
 pub store-at-requires : goal.store-at-requires
 store-at-requires c =
     let a = c.args in
-    let n = c.least-len in
-    let fits : c.loop-i.i + n.result ≤ a.m = omega (arith, n.ensures.0, c.loop-i-test.true) in
-    let even = even_batch a.even c.loop-i.i a.m a.s a.r _ c.requires.5 c.requires.3 c.loop-i.invariant.2.even n.ensures.3 n.ensures.4 in
-    round_asks n.result c.loop-i.invariant.2 even c.lanes.ensures.0 c.requires.3 c.requires.4 c.requires.5 fits n.ensures.1
+    let n = c.min-len in
+    let fits : c.loop-i.i + n.result ≤ a.m = omega arith in
+    let even = even_batch a.even c.loop-i.i a.m a.s a.r _ c.requires.5 c.requires.3 c.loop-i.invariant.2.even (λ x. omega arith) (λ x. omega arith) in
+    round_asks n.result c.loop-i.invariant.2 even c.lanes.ensures.0 c.requires.3 c.requires.4 c.requires.5 fits (omega arith) (omega arith)
 
 pub overflow_add-i : goal.overflow_add-i
 overflow_add-i c =
     let a = c.args in
-    let n = c.least-len in
-    let fits : c.loop-i.i + n.result ≤ a.m = omega (arith, n.ensures.0, c.loop-i-test.true) in
+    let n = c.min-len in
+    let fits : c.loop-i.i + n.result ≤ a.m = omega arith in
     omega (arith, fits)
 
 pub loop-i-smaller : goal.loop-i-smaller
 loop-i-smaller c =
     let a = c.args in
-    let n = c.least-len in
-    let fits : c.loop-i.i + n.result ≤ a.m = omega (arith, n.ensures.0, c.loop-i-test.true) in
-    let some : 0 < n.result = n.ensures.2 (omega (arith, c.loop-i-test.true)) (omega arith) in
+    let n = c.min-len in
+    let fits : c.loop-i.i + n.result ≤ a.m = omega arith in
+    let some : 0 < n.result = omega arith in
     omega (arith, fits)
 
 pub loop-i-preserved : goal.loop-i-preserved
 loop-i-preserved c =
     let a = c.args in
-    let n = c.least-len in
-    let fits : c.loop-i.i + n.result ≤ a.m = omega (arith, n.ensures.0, c.loop-i-test.true) in
-    let even = even_batch a.even c.loop-i.i a.m a.s a.r _ c.requires.5 c.requires.3 c.loop-i.invariant.2.even n.ensures.3 n.ensures.4 in
+    let n = c.min-len in
+    let fits : c.loop-i.i + n.result ≤ a.m = omega arith in
+    let even = even_batch a.even c.loop-i.i a.m a.s a.r _ c.requires.5 c.requires.3 c.loop-i.invariant.2.even (λ x. omega arith) (λ x. omega arith) in
     let part =
     lent_part c.laid_out-layout.result c.loop-i.i n.result a.m a.r a.w a.tw.now _ _ c.first_word.ensures c.laid_out-layout.ensures.0
-    c.loop-i.invariant.1 fits n.ensures.1 c.requires.0.few c.requires.1.lent (c.fetch.auto.t ∙ c.loop-i.invariant.0) c.lent.ensures c.fetch.ensures in (
+    c.loop-i.invariant.1 fits (omega arith) c.requires.0.few c.requires.1.lent (c.fetch.auto.t ∙ c.loop-i.invariant.0) c.lent.ensures c.fetch.ensures in (
       c.fetch.auto.t ∙ c.loop-i.invariant.0,
       λ four. omega (arith, c.loop-i.invariant.1 four),
       round_next n.result c.loop-i.invariant.2 even c.lanes.ensures.0 fits c.store-at.auto.dst c.store-at.ensures

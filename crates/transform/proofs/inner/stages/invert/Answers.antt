@@ -11,35 +11,29 @@ slice_bounds-all-end-2 c = sym (length-take-le _ _ (omega (arith, c.requires.roo
 pub slice_bounds-all-end-4 : goal.slice_bounds-all-end-4
 slice_bounds-all-end-4 c = sym (length-take-le _ _ c.requires.other)
 
-pub all-which-requires : goal.all-which-requires
-all-which-requires c = record {
-  planned = c.requires.planned;
-  width = c.requires.width;
-  long = length-take-le _ _ (omega (arith, c.requires.room));
-  wide = length-take-le _ _ c.requires.other;
-  lent = c.requires.lent;
-}
+pub all-requires : goal.all-requires
+all-requires c = record { long = length-take-le _ _ (omega (arith, c.requires.room)); wide = length-take-le _ _ c.requires.other }
 
 pub from_data-requires : goal.from_data-requires
-from_data-requires c = let o = c.all-which in
+from_data-requires c = let o = c.all in
     let a = front_room c.args.plan.half o.new.«data» c.args.scratch.now o.auto.«data» (omega (arith, c.requires.room)) in
     let b = front_room c.args.plan.half o.new.scratch c.args.output.now o.auto.scratch c.requires.other in
     ((plan_half c.args.plan c.requires.planned).1, omega (arith, a.0, c.requires.room), omega (arith, b.0, c.requires.other))
 
 pub from_pad-requires : goal.from_pad-requires
-from_pad-requires c = let o = c.all-which in
+from_pad-requires c = let o = c.all in
     let a = front_room c.args.plan.half o.new.«data» c.args.scratch.now o.auto.«data» (omega (arith, c.requires.room)) in
     let b = front_room c.args.plan.half o.new.scratch c.args.output.now o.auto.scratch c.requires.other in
     ((plan_half c.args.plan c.requires.planned).1, omega (arith, a.0, c.requires.room), omega (arith, b.0, c.requires.other))
 
 pub returns-in-Data : goal.returns-in-Data
-returns-in-Data c = let a = c.args in let o = c.all-which.ensures in let f = c.from_data.ensures in
+returns-in-Data c = let a = c.args in let o = c.all.ensures in let f = c.from_data.ensures in
     let both = from_data a.plan a.width a.twiddles.now a.scratch.now a.output.now c.requires.room c.requires.other _ _ o.data_after o.scratch_after _ _
     (sym o.value ∙ c.in-Data.is) f.scratch_after f.output_after in
     record { scratch_after = both.0; output_after = both.1 }
 
 pub returns-in-Scratchpad : goal.returns-in-Scratchpad
-returns-in-Scratchpad c = let a = c.args in let o = c.all-which.ensures in let f = c.from_pad.ensures in
+returns-in-Scratchpad c = let a = c.args in let o = c.all.ensures in let f = c.from_pad.ensures in
     let both = from_pad a.plan a.width a.twiddles.now a.scratch.now a.output.now c.requires.room c.requires.other _ _ o.data_after o.scratch_after _ _
     (sym o.value ∙ c.in-Scratchpad.is) f.scratch_after f.output_after in
     record { scratch_after = both.0; output_after = both.1 }

@@ -12,14 +12,7 @@ slice_bounds-all_from-end-4 c = sym (length-take-le _ _ c.requires.0.other)
 
 pub all_from-which-requires : goal.all_from-which-requires
 all_from-which-requires c = (
-  record {
-    planned = c.requires.0.planned;
-    width = c.requires.0.width;
-    long = c.requires.1;
-    wide = length-take-le _ _ c.requires.0.other;
-    lent =
-        c.requires.0.lent;
-  },
+  record { long = c.requires.1; wide = length-take-le _ _ c.requires.0.other },
   length-take-le _ _ (omega (arith, c.requires.0.room)) ∙ sym c.requires.1,
 )
 

@@ -18,8 +18,8 @@ loop-j-preserved g c = let l = c.loop-j in let lt : l.j < c.args.len = c.loop-j-
     let t = c.get-t.ensures in (
       c.put.auto.xs ∙ l.invariant.0,
       c.put-in-loop-j.auto.xs ∙ l.invariant.1,
-      batched_next g.D.Direction.steps c.args.self.h c.args.self.twiddles.now x c.args.k l.j l.made.ahead
-          l.made.back _ _ _ _ (omega (arith, lt, c.requires.short)) (omega arith) (omega arith) l.invariant.2
+      batched_next g.D.Direction.steps c.args.self.h c.args.self.twiddles.now x c.args.k l.j l.ahead
+          l.back _ _ _ _ (omega (arith, lt, c.requires.short)) (omega arith) (omega arith) l.invariant.2
           (c.near.ensures ∙ rw (a, b, t)) (c.far.ensures ∙ rw (a, b, t)) c.put.ensures c.put-in-loop-j.ensures,
     )
 
@@ -27,5 +27,5 @@ pub returns : goal.returns
 returns g c = let l = c.loop-j in let e : l.j ≡ c.args.len = omega arith in (
   omega arith,
   omega arith,
-  subst (λ (n : ℕ). Batched g.D.Direction.steps c.args.self.h c.args.self.twiddles.now c.args.self.cells.now c.args.k n l.made.ahead l.made.back) e l.invariant.2,
+  subst (λ (n : ℕ). Batched g.D.Direction.steps c.args.self.h c.args.self.twiddles.now c.args.self.cells.now c.args.k n l.ahead l.back) e l.invariant.2,
 )

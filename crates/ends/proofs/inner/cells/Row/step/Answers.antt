@@ -10,7 +10,7 @@ pub paste-requires : goal.paste-requires
 paste-requires g c = let q = c.batch in
     omega (
       arith,
-      length-take-le (2 * c.args.len) q.new.made.ahead (omega (arith, q.ensures.0, c.requires.0.short)),
+      length-take-le (2 * c.args.len) q.new.ahead (omega (arith, q.ensures.0, c.requires.0.short)),
       c.requires.0.some,
       c.requires.0.room,
       c.requires.1,
@@ -18,7 +18,7 @@ paste-requires g c = let q = c.batch in
 
 pub returns : goal.returns
 returns g c = let s = c.requires.0 in let q = c.batch in
-    let n = c.args.len in let a = q.new.made.ahead in let b = q.new.made.back in
+    let n = c.args.len in let a = q.new.ahead in let b = q.new.back in
     let la : length a ≡ 64 = q.ensures.0 in
     let lb : length b ≡ 64 = q.ensures.1 in
     let em : 64 - (64 - 2 * n) ≡ 2 * n = omega (arith, s.short) in
