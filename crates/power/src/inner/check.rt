@@ -25,8 +25,7 @@ pub fn lent_bins(spectrum: &[f32], lo: usize, hi: usize) -> Verdict
     if hi >= words / 2 {
         return Err(Refusal::Bins);
     }
-    let large = first_unfit(spectrum, CEILING);
-    if large < words {
+    if let Some(large) = first_unfit(spectrum, CEILING) {
         return Err(Refusal::Number(large));
     }
     Ok(())

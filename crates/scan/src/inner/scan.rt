@@ -1,5 +1,6 @@
 // The first number of a slice that is not finite, or larger than a bound in magnitude.
 ghost use Rattle.std.specs.Prelude.{◌≡◌, true, ℕ, ◌+◌, ◌≤◌, length};
+ghost use Rattle.sequences.specs.Found.{Found};
 ghost use Rattle.scan.specs.Scan.{first_unfit, bound, Passed, SquaresTell, AllWithin, within as Scan·within};
 
 // 2^48: numbers of bins, and those that a stage is given, are at most this.
@@ -58,10 +59,10 @@ fn passed_to_end(xs: &[f32], b: f32) -> usize
     n
 }
 
-// The index of the first number that is not within b, a power of two, or the length. Up to the ceiling, the largest bound in use, the squares tell.
+// The index of the first number that is not within b, a power of two. Up to the ceiling, the largest bound in use, the squares tell.
 // The loop yields its place by break, a form that the project keeps one of.
-pub fn first_unfit(xs: &[f32], b: f32) -> usize
-    ensures { (k : ℕ) → b ≡ bound k → result ≡ first_unfit k xs.now }
+pub fn first_unfit(xs: &[f32], b: f32) -> Option<usize>
+    ensures { (k : ℕ) → b ≡ bound k → Found (length xs.now) (first_unfit k xs.now) result }
 {
     let mut i: usize = 0;
     if b <= CEILING {
@@ -69,10 +70,10 @@ pub fn first_unfit(xs: &[f32], b: f32) -> usize
     }
     let place = loop {
         if i >= xs.len() {
-            break xs.len();
+            break None;
         }
         if !within(xs[i], b) {
-            break i;
+            break Some(i);
         }
         i += 1;
     };

@@ -60,16 +60,13 @@ impl Tables<'_> {
     fn numbers(self, input: &[f32], most: f32) -> Verdict
         ensures { (k : ℕ) → most ≡ bound k → result ≡ number_verdict k input.now self.entry.stage_twiddles.now self.entry.end_twiddles.now }
     {
-        let large = first_unfit(input, most);
-        if large < input.len() {
+        if let Some(large) = first_unfit(input, most) {
             return Err(Refusal::Number(large));
         }
-        let wide = first_unfit(self.stage_twiddles, 1.0);
-        if wide < self.stage_twiddles.len() {
+        if let Some(wide) = first_unfit(self.stage_twiddles, 1.0) {
             return Err(Refusal::Twiddle(wide));
         }
-        let last = first_unfit(self.end_twiddles, 1.0);
-        if last < self.end_twiddles.len() {
+        if let Some(last) = first_unfit(self.end_twiddles, 1.0) {
             return Err(Refusal::Twiddle(self.stage_twiddles.len() + last));
         }
         Ok(())

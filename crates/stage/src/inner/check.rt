@@ -45,12 +45,10 @@ fn sizes(
 fn numbers(input: &[f32], twiddles: &[f32]) -> Verdict
     ensures { result ≡ number_verdict input.now twiddles.now }
 {
-    let large = first_unfit(input, CEILING);
-    if large < input.len() {
+    if let Some(large) = first_unfit(input, CEILING) {
         return Err(Refusal::Number(large));
     }
-    let wide = first_unfit(twiddles, 1.0);
-    if wide < twiddles.len() {
+    if let Some(wide) = first_unfit(twiddles, 1.0) {
         return Err(Refusal::Twiddle(wide));
     }
     Ok(())

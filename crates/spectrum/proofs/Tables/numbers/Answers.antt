@@ -1,35 +1,34 @@
 -- `spectrum::Tables::numbers` meets its contract. Assumes nothing.
-use Rattle.sequences.proofs.Basics.{refl, ◌+◌, ◌<◌, ◌≤◌, arith, ◌++◌, length, length-append}
+use Rattle.sequences.proofs.Basics.{refl, ◌+◌, ◌<◌, arith, ◌++◌, length, length-append}
 use lib.Ieee.{of_bits}
 use Rattle.refusal.proofs.Rows.{deciding}
 use Rattle.spectrum.specs.Calls.{number_verdict}
-use Rattle.spectrum.proofs.Verdicts.{in_stages, in_ends}
+use Rattle.spectrum.proofs.Verdicts.{in_stages, in_ends, all_fit}
 use Rattle.spectrum.proofs.Tables.numbers.Goals as goal
 
-pub returns-then-large-input : goal.returns-then-large-input
+pub returns-in-Some : goal.returns-in-Some
 unfolding number_verdict
-returns-then-large-input c = λ k e. search (deciding, c.first_unfit-large.ensures k e)
+returns-in-Some c = λ k e. let large = c.in-Some.ensures k e in search (deciding, large.0, large.1)
 
-pub returns-then-wide-self : goal.returns-then-wide-self
+pub returns-in-Some-wide : goal.returns-in-Some-wide
 unfolding of_bits number_verdict
-returns-then-wide-self c = λ k e.
-    let a = c.args in let at = in_stages a.self.stage_twiddles.now a.self.end_twiddles.now _ (c.first_unfit-wide.ensures 0 refl) c.if-wide-self.true in
-    search (deciding, c.first_unfit-large.ensures k e)
+returns-in-Some-wide c = λ k e.
+    let t = c.args.self in let none = c.in_default.ensures k e in let wide = c.in-Some-wide.ensures 0 refl in
+    let at = in_stages t.stage_twiddles.now t.end_twiddles.now _ wide.0 wide.1 in
+    search (deciding, none, at.0, at.1)
 
-pub returns-then-last-self : goal.returns-then-last-self
+pub returns-in-Some-last : goal.returns-in-Some-last
 unfolding of_bits number_verdict
-returns-then-last-self c = λ k e.
-    let a = c.args in let at = in_ends a.self.stage_twiddles.now a.self.end_twiddles.now _ (c.first_unfit-wide.ensures 0 refl) c.if-wide-self.false _ (c.first_unfit-last.ensures 0
-    refl) in
-    let inside : length a.self.stage_twiddles.now + c.first_unfit-last.result < length (a.self.stage_twiddles.now ++ a.self.end_twiddles.now) =
-    omega (arith, c.if-last-self.true, length-append a.self.stage_twiddles.now a.self.end_twiddles.now) in
-    search (deciding, c.first_unfit-large.ensures k e)
+returns-in-Some-last c = λ k e.
+    let t = c.args.self in let none = c.in_default.ensures k e in let last = c.in-Some-last.ensures 0 refl in
+    let at = in_ends t.stage_twiddles.now t.end_twiddles.now _ refl (c.in_default-wide.ensures 0 refl) _ last.0 in
+    let inside : length t.stage_twiddles.now + c.in-Some-last.last < length (t.stage_twiddles.now ++ t.end_twiddles.now) =
+            omega (arith, last.1, length-append t.stage_twiddles.now t.end_twiddles.now) in
+    search (deciding, none, at, inside)
 
 pub returns : goal.returns
 unfolding of_bits number_verdict
 returns c = λ k e.
-    let a = c.args in let at = in_ends a.self.stage_twiddles.now a.self.end_twiddles.now _ (c.first_unfit-wide.ensures 0 refl) c.if-wide-self.false _ (c.first_unfit-last.ensures 0
-    refl) in
-    let past : length (a.self.stage_twiddles.now ++ a.self.end_twiddles.now) ≤ length a.self.stage_twiddles.now + c.first_unfit-last.result =
-    omega (arith, c.if-last-self.false, length-append a.self.stage_twiddles.now a.self.end_twiddles.now) in
-    search (deciding, c.first_unfit-large.ensures k e)
+    let t = c.args.self in let none = c.in_default.ensures k e in
+    let fit = all_fit t.stage_twiddles.now t.end_twiddles.now (c.in_default-wide.ensures 0 refl) (c.in_default-last.ensures 0 refl) in
+    search (deciding, none, fit)

@@ -25,10 +25,10 @@ pub returns-then-hi-words : goal.returns-then-hi-words
 unfolding power_verdict of_bits
 returns-then-hi-words c = search deciding
 
-pub returns-then-large-words : goal.returns-then-large-words
+pub returns-in-Some : goal.returns-in-Some
 unfolding power_verdict of_bits
-returns-then-large-words c = search (deciding, c.first_unfit-large.ensures 48 refl)
+returns-in-Some c = let large = c.in-Some.ensures 48 refl in search (deciding, large.0, large.1)
 
 pub returns : goal.returns
 unfolding power_verdict of_bits
-returns c = search (deciding, c.first_unfit-large.ensures 48 refl)
+returns c = let none = c.in_default.ensures 48 refl in search (deciding, none)

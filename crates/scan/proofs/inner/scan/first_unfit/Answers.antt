@@ -1,5 +1,5 @@
 -- `scan::inner::scan::first_unfit` meets its contract. Assumes nothing.
-use Rattle.sequences.proofs.Basics.{sym, ap, subst, ◌∙◌, zero-add, arith, not, rules}
+use Rattle.sequences.proofs.Basics.{sym, ap, subst, ◌∙◌, zero-add, le_of_eq, arith, not, rules}
 use Rattle.scan.specs.Scan.{within, Passed}
 use Rattle.sequences.proofs.First.{first_here, first_none}
 use Rattle.scan.proofs.Scan.{first_pass, first_unfit_lem, power_below}
@@ -26,10 +26,13 @@ loop-i-preserved c = let l = c.loop-i in let a = c.args in (
 
 pub returns-then-i-xs : goal.returns-then-i-xs
 returns-then-i-xs c = let a = c.args in let l = c.loop-i in
-    λ k e. first_unfit_lem a.b a.xs.now _ (sym (first_none (λ (x : Float). not (within a.b x)) a.xs.now l.i (search rules) (search rules)
-    (l.invariant.1 k e))) k e
+    λ k e. le_of_eq (first_unfit_lem a.b a.xs.now _ (sym (first_none (λ (x : Float). not (within a.b x)) a.xs.now l.i (search rules) (search rules)
+    (l.invariant.1 k e))) k e)
 
 pub returns-then-not-within : goal.returns-then-not-within
 returns-then-not-within c = let l = c.loop-i in let a = c.args in
-    λ k e. first_unfit_lem a.b a.xs.now _ (sym (first_here nan (λ (x : Float). not (within a.b x)) a.xs.now l.i (search rules)
-    (ap not (sym c.within.ensures ∙ c.if-not-within.true)) (l.invariant.1 k e))) k e
+    λ k e. (
+      first_unfit_lem a.b a.xs.now _ (sym (first_here nan (λ (x : Float). not (within a.b x)) a.xs.now l.i (search rules)
+          (ap not (sym c.within.ensures ∙ c.if-not-within.true)) (l.invariant.1 k e))) k e,
+      search rules,
+    )

@@ -5,14 +5,14 @@ use Rattle.refusal.proofs.Rows.{deciding}
 use Rattle.stage.specs.Calls.{number_verdict}
 use Rattle.stage.proofs.inner.check.numbers.Goals as goal
 
-pub returns-then-large-input : goal.returns-then-large-input
+pub returns-in-Some : goal.returns-in-Some
 unfolding of_bits number_verdict
-returns-then-large-input c = search (deciding, c.first_unfit-large.ensures 48 refl)
+returns-in-Some c = let large = c.in-Some.ensures 48 refl in search (deciding, large.0, large.1)
 
-pub returns-then-wide-twiddles : goal.returns-then-wide-twiddles
+pub returns-in-Some-wide : goal.returns-in-Some-wide
 unfolding of_bits number_verdict
-returns-then-wide-twiddles c = search (deciding, c.first_unfit-large.ensures 48 refl, c.first_unfit-wide.ensures 0 refl)
+returns-in-Some-wide c = let none = c.in_default.ensures 48 refl in let wide = c.in-Some-wide.ensures 0 refl in search (deciding, none, wide.0, wide.1)
 
 pub returns : goal.returns
 unfolding of_bits number_verdict
-returns c = search (deciding, c.first_unfit-large.ensures 48 refl, c.first_unfit-wide.ensures 0 refl)
+returns c = let none = c.in_default.ensures 48 refl in let least = c.in_default-wide.ensures 0 refl in search (deciding, none, least)
