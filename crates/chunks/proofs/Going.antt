@@ -8,10 +8,6 @@ use Rattle.chunks.specs.Chunks.{Walking, ended, going}
 use Rattle.chunks.specs.declared.inner.walk.Walk.TheVariants.{Chunk, End}
 use Rattle.chunks.specs.declared.inner.walk.Samples.{Samples}
 
--- a refusal is not accepted
-pub refused_not : {why : Refusal} → Refused why ≡ Accepted → ⊥
-refused_not e = cc
-
 -- whatever holds after both verdicts holds
 pub going_cases : (P : Walking → Type 0) (v : Verdict) (next : Walking) → (v ≡ Accepted → P next) → ((why : Refusal) → v ≡ Refused why → P (Err why))
     → P (going v next)

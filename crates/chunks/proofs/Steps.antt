@@ -1,6 +1,7 @@
 -- One chunk, by what its id is. Assumes nothing.
-use Rattle.sequences.proofs.Basics.{◌≡◌, refl, sym, subst, ℕ, ◌+◌, ◌-◌, ◌/◌, ◌≤◌, ◌<◌, arith, Bool, true, false, ◌&&◌, List, eqb, eq-eqb, ne_eqb, lt-ltb}
+use Rattle.sequences.proofs.Basics.{◌≡◌, refl, sym, subst, ℕ, ◌+◌, ◌-◌, ◌/◌, ◌≤◌, ◌<◌, arith, List, eqb, eq-eqb, ne_eqb, lt-ltb}
 use Rattle.sequences.proofs.Basics.{le-ltb, dite, dec_lt, ℕ_discrete}
+use Rattle.std.proofs.Math.Bool.{and-false}
 use Rattle.std.specs.Prelude.{Option, Some, None, Ok, Err}
 use Rattle.refusal.specs.Refusal.{verdict}
 use Rattle.refusal.specs.declared.Refusal.{Refusal}
@@ -11,11 +12,6 @@ use Rattle.fields.specs.Fields.{mark, padded, data_rows, format_rows, other_rows
 use Rattle.chunks.specs.Chunks.{Walking, samples_from, at_data, at_format, at_other, stepped}
 use Rattle.chunks.specs.declared.inner.walk.Walk.TheVariants.{Chunk, End}
 use Rattle.chunks.proofs.Going.{going_cases}
-
--- two tests of which the second fails
-not_both : (b : Bool) → (b && false) ≡ false
-not_both true = refl
-not_both false = refl
 
 -- a format's mark is not that of samples
 pub marks_apart : (id : ℕ) → id ≡ mark "fmt " → id ≡ mark "data" → ⊥
@@ -48,7 +44,7 @@ module _ (w : List ℕ) (at : ℕ) (rate : Option ℕ) (L : ℕ) where
 pub step_second : (w : List ℕ) (at rate L : ℕ) → 4 ≤ L - at → (number_at 4 w 0 ≡ mark "data" → ⊥)
     → stepped w at (Some rate) L ≡ at_other w at (Some rate) L
 unfolding stepped
-step_second w at rate L h e = rw (le-ltb (L - at) 4 h, ne_eqb (number_at 4 w 0) (mark "data") e, not_both (eqb (number_at 4 w 0) (mark "fmt ")))
+step_second w at rate L h e = rw (le-ltb (L - at) 4 h, ne_eqb (number_at 4 w 0) (mark "data") e, and-false (eqb (number_at 4 w 0) (mark "fmt ")))
 
 -- whatever holds of each refusal and after each kind of chunk holds
 module _ (P : Walking → Type 0) (w : List ℕ) (at : ℕ) (rate : Option ℕ) (L : ℕ) (refused : (why : Refusal) → P (Err why))

@@ -1,3 +1,2 @@
 -- The definitions that contracts cite.
 pub mod Fields
-pub mod Parts

@@ -35,7 +35,7 @@ pub fn begin(window: &[u8], total: usize) -> Result<Walk, Refusal>
 // The walk at a chunk of samples, where the format before it had this rate.
 #[tactic(auto, unfolding(crate::specs::Chunks::at_data))]
 fn at_data(chunk: View<24>, rate: Option<u32>) -> Result<Walk, Refusal>
-    ensures { result ≡ at_data chunk.entry.window.now chunk.entry.at rate chunk.entry.total }
+    ensures { let view = chunk.entry in result ≡ at_data view.window.now view.at rate view.total }
 {
     let Some(rate) = rate else {
         return Err(Refusal::Wav(chunk.at));
@@ -51,7 +51,7 @@ fn at_data(chunk: View<24>, rate: Option<u32>) -> Result<Walk, Refusal>
 // The walk after the first format.
 #[tactic(auto, unfolding(crate::specs::Chunks::at_format))]
 fn first_format(chunk: View<24>) -> Result<Walk, Refusal>
-    ensures { result ≡ at_format chunk.entry.window.now chunk.entry.at chunk.entry.total }
+    ensures { let view = chunk.entry in result ≡ at_format view.window.now view.at view.total }
 {
     let rate = format(chunk)?;
     Ok(Walk::Chunk {
@@ -63,7 +63,7 @@ fn first_format(chunk: View<24>) -> Result<Walk, Refusal>
 // The walk after a chunk that is skipped, with its pad byte.
 #[tactic(auto, unfolding(crate::specs::Chunks::at_other))]
 fn skip(chunk: View<24>, rate: Option<u32>) -> Result<Walk, Refusal>
-    ensures { result ≡ at_other chunk.entry.window.now chunk.entry.at rate chunk.entry.total }
+    ensures { let view = chunk.entry in result ≡ at_other view.window.now view.at rate view.total }
 {
     let size = other(chunk)?;
     Ok(Walk::Chunk {
@@ -75,7 +75,7 @@ fn skip(chunk: View<24>, rate: Option<u32>) -> Result<Walk, Refusal>
 // The walk after a chunk, where the format before it had this rate.
 #[tactic(auto, unfolding(crate::specs::Chunks::stepped))]
 pub fn step(chunk: View<24>, rate: Option<u32>) -> Result<Walk, Refusal>
-    ensures { result ≡ stepped chunk.entry.window.now chunk.entry.at rate chunk.entry.total }
+    ensures { let view = chunk.entry in result ≡ stepped view.window.now view.at rate view.total }
 {
     let id = chunk.four(0)?;
     if id == four(b"data", 0) {

@@ -28,7 +28,7 @@ pub fn head(window: &[u8], total: usize) -> Verdict
 
 // The verdict on the kind of a format.
 fn kind(chunk: View<24>) -> Verdict
-    ensures { result ≡ verdict (kind_rows chunk.entry.window.now chunk.entry.at (chunk.entry.total - chunk.entry.at) chunk.entry.total) }
+    ensures { let view = chunk.entry in result ≡ verdict (kind_rows view.window.now view.at (view.total - view.at) view.total) }
 {
     chunk.four_is(4, 16)?;
     chunk.two_is(8, 1)?;
@@ -37,8 +37,8 @@ fn kind(chunk: View<24>) -> Verdict
 
 // The rate of a format, and the verdict on it and on what follows from it.
 fn rate(chunk: View<24>) -> Result<u32, Refusal>
-    ensures { result ≡ granted (verdict (rate_rows chunk.entry.window.now chunk.entry.at (chunk.entry.total - chunk.entry.at) chunk.entry.total))
-        (number_at 4 chunk.entry.window.now 12) }
+    ensures { let view = chunk.entry in result ≡ granted (verdict (rate_rows view.window.now view.at (view.total - view.at) view.total))
+        (number_at 4 view.window.now 12) }
 {
     let rate = chunk.four(12)?;
     if rate == 0 || rate > FASTEST {
@@ -52,8 +52,8 @@ fn rate(chunk: View<24>) -> Result<u32, Refusal>
 
 // The rate of a format, and the verdict on it.
 pub fn format(chunk: View<24>) -> Result<u32, Refusal>
-    ensures { result ≡ granted (verdict (format_rows chunk.entry.window.now chunk.entry.at (chunk.entry.total - chunk.entry.at) chunk.entry.total))
-        (number_at 4 chunk.entry.window.now 12) }
+    ensures { let view = chunk.entry in result ≡ granted (verdict (format_rows view.window.now view.at (view.total - view.at) view.total))
+        (number_at 4 view.window.now 12) }
 {
     kind(chunk)?;
     rate(chunk)
@@ -61,8 +61,8 @@ pub fn format(chunk: View<24>) -> Result<u32, Refusal>
 
 // How many samples a chunk of samples holds, and the verdict on it.
 pub fn data(chunk: View<24>) -> Result<usize, Refusal>
-    ensures { result ≡ granted (verdict (data_rows chunk.entry.window.now chunk.entry.at (chunk.entry.total - chunk.entry.at) chunk.entry.total))
-        (number_at 4 chunk.entry.window.now 4 / 2) }
+    ensures { let view = chunk.entry in result ≡ granted (verdict (data_rows view.window.now view.at (view.total - view.at) view.total))
+        (number_at 4 view.window.now 4 / 2) }
 {
     let size = chunk.four(4)?;
     if size % 2 != 0 {
@@ -74,8 +74,8 @@ pub fn data(chunk: View<24>) -> Result<usize, Refusal>
 
 // The size of any other chunk, less its pad byte, and the verdict on it.
 pub fn other(chunk: View<24>) -> Result<usize, Refusal>
-    ensures { result ≡ granted (verdict (other_rows chunk.entry.window.now chunk.entry.at (chunk.entry.total - chunk.entry.at) chunk.entry.total))
-        (number_at 4 chunk.entry.window.now 4) }
+    ensures { let view = chunk.entry in result ≡ granted (verdict (other_rows view.window.now view.at (view.total - view.at) view.total))
+        (number_at 4 view.window.now 4) }
 {
     let size = chunk.four(4)?;
     chunk.has(8 + size + size % 2)?;

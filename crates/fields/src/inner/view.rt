@@ -21,7 +21,7 @@ pub struct View<'a, const SHOWN: usize> {
 impl<const SHOWN: usize> View<'_, SHOWN> {
     // So many bytes are left of the file.
     pub fn has(self, bytes: usize) -> Verdict
-        ensures { result ≡ verdict (ltb (self.entry.total - self.entry.at) bytes ⇒ Wav self.entry.total ∷ []) }
+        ensures { let view = self.entry in result ≡ verdict (ltb (view.total - view.at) bytes ⇒ Wav view.total ∷ []) }
     {
         if self.total - self.at < bytes {
             return Err(Refusal::Wav(self.total));
@@ -32,8 +32,8 @@ impl<const SHOWN: usize> View<'_, SHOWN> {
     // The number of the four bytes that begin i bytes on.
     pub fn four(self, i: usize) -> Result<usize, Refusal>
         requires { i + 4 ≤ SHOWN }
-        ensures value { result ≡ granted (verdict (ltb (self.entry.total - self.entry.at) (i + 4) ⇒ Wav self.entry.total ∷ []))
-            (number_at 4 self.entry.window.now i) }
+        ensures value { let view = self.entry in result ≡ granted (verdict (ltb (view.total - view.at) (i + 4) ⇒ Wav view.total ∷ []))
+            (number_at 4 view.window.now i) }
         ensures small { IfOk result (λ n. n < 4294967296) }
     {
         self.has(i + 4)?;
@@ -43,8 +43,8 @@ impl<const SHOWN: usize> View<'_, SHOWN> {
     // They are this number.
     pub fn four_is(self, i: usize, wanted: usize) -> Verdict
         requires { i + 4 ≤ SHOWN }
-        ensures { result ≡ verdict (field self.entry.window.now self.entry.at (self.entry.total - self.entry.at) self.entry.total i 4
-            (is_not (number_at 4 self.entry.window.now i) wanted)) }
+        ensures { let view = self.entry in result ≡ verdict (field view.window.now view.at (view.total - view.at) view.total i 4
+            (is_not (number_at 4 view.window.now i) wanted)) }
     {
         if self.four(i)? != wanted {
             return Err(Refusal::Wav(self.at + i));
@@ -52,11 +52,11 @@ impl<const SHOWN: usize> View<'_, SHOWN> {
         Ok(())
     }
 
-    // The two bytes that begin i bytes on are this number.
+    // The two bytes that begin i bytes on are this number: a parameter for how many bytes would only choose between `two` and `four` again.
     pub fn two_is(self, i: usize, wanted: usize) -> Verdict
         requires { i + 2 ≤ SHOWN }
-        ensures { result ≡ verdict (field self.entry.window.now self.entry.at (self.entry.total - self.entry.at) self.entry.total i 2
-            (is_not (number_at 2 self.entry.window.now i) wanted)) }
+        ensures { let view = self.entry in result ≡ verdict (field view.window.now view.at (view.total - view.at) view.total i 2
+            (is_not (number_at 2 view.window.now i) wanted)) }
     {
         self.has(i + 2)?;
         if two(self.window, i) != wanted {
