@@ -1,12 +1,11 @@
 -- A run of a plan's stages in floats, on two buffers of 2h words: what it leaves, and what the driver asks for. Assumes nothing.
-use Rattle.std.specs.Prelude.{ℕ, ◌+◌, ◌*◌, ◌/◌, ◌≤◌, ◌<◌, ◌≡◌, true, List, Float, take, drop}
-use Rattle.counts.specs.Counts.{radix, stride, twiddle_count, twiddle_start, stage_twiddles}
-use Rattle.plan.specs.Record.{is_planned}
+use Rattle.std.specs.Prelude.{ℕ, ◌+◌, ◌*◌, ◌/◌, ◌≤◌, ◌<◌, ◌≡◌, List, Float, take, drop}
+use Rattle.counts.specs.Counts.{radix, stride, twiddle_count, twiddle_start}
 use Rattle.plan.specs.declared.Record.{Record}
 use Rattle.schedule.specs.Buffers.{Two, driven}
 use Rattle.schedule.specs.Plans.{in_use}
 use Rattle.schedule.specs.Stage.{twiddle_turn}
-use Rattle.packing.specs.Places.{is_width, place}
+use Rattle.packing.specs.Places.{place}
 use Rattle.floats.specs.declared.complex.Complex.{Complex}
 use Rattle.floats.specs.Complexes.{cell}
 use Rattle.kernel.specs.Floats.{word_of, stage_of}

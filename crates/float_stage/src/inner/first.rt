@@ -1,5 +1,5 @@
 // The first stage: the outputs of an iteration stand side by side.
-ghost use Rattle.std.specs.Prelude.{true, ℕ, ◌+◌, ◌*◌, ◌<◌, ◌≤◌, length, get_or};
+ghost use Rattle.std.specs.Prelude.{true, ℕ, ◌+◌, ◌*◌, ◌≤◌, length, get_or};
 ghost use Rattle.floats.specs.Complexes.{blank};
 ghost use Rattle.kernel.specs.Parts.{output_of, Sized};
 ghost use Rattle.storing.specs.Parts.{Wrote, Done};

@@ -1,5 +1,5 @@
 -- `lanes::inner::lanes::every_second` meets its contract. Assumes nothing.
-use Rattle.sequences.proofs.Basics.{◌≡◌, ◌%◌, arith}
+use Rattle.sequences.proofs.Basics.{arith}
 use Rattle.lanes.proofs.Writes.{every_none, every_step, every_end}
 use Rattle.lanes.proofs.inner.lanes.every_second.Goals as goal
 
