@@ -23,7 +23,7 @@ returns-in-Some-first_unfit-2 c = λ k e.
     let t = c.args.self in let none = c.in_default.ensures k e in let last = c.in-Some-first_unfit-2.ensures 0 refl in
     let at = in_ends t.stage_twiddles.now t.end_twiddles.now _ refl (c.in_default-first_unfit.ensures 0 refl) _ last.0 in
     let inside : length t.stage_twiddles.now + c.in-Some-first_unfit-2.last < length (t.stage_twiddles.now ++ t.end_twiddles.now) =
-            omega (arith, last.1, length-append t.stage_twiddles.now t.end_twiddles.now) in
+    omega (arith, last.1, length-append t.stage_twiddles.now t.end_twiddles.now) in
     search (deciding, none, at, inside)
 
 pub returns : goal.returns
@@ -32,3 +32,7 @@ returns c = λ k e.
     let t = c.args.self in let none = c.in_default.ensures k e in
     let fit = all_fit t.stage_twiddles.now t.end_twiddles.now (c.in_default-first_unfit.ensures 0 refl) (c.in_default-first_unfit-2.ensures 0 refl) in
     search (deciding, none, fit)
+
+pub overflow_add-result : goal.overflow_add-result
+unfolding of_bits
+overflow_add-result c = let last = c.in-Some-first_unfit-2.ensures 0 refl in omega (arith, last.1)
