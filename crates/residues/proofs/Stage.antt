@@ -68,7 +68,7 @@ module _ {m M s r : ℕ} {src : List ℕ} {room : ℕ} (h : Staged m M s r src r
         let parts : M * r ≡ M / s * (s * r) = ap (λ (n : ℕ). n * r) h.blocks.whole ∙ omega arith in
         let to : block + k ≡ i / s * (s * r) + i % s = ap₂ (λ (x y : ℕ). x + y) w.starts w.column in
         record {
-          some = omega (arith, h.blocks.some);
+          some = h.blocks.some;
           few = h.blocks.few;
           writes = λ p lp. rw (h.wide, to) (index_lt s r i p lent.stride lp (M * r)
               (M / s) parts (rw (mul-div_left M {n = r} (omega (arith, h.blocks.some))) l));
@@ -76,7 +76,7 @@ module _ {m M s r : ℕ} {src : List ℕ} {room : ℕ} (h : Staged m M s r src r
 
     -- the block is in the room
     pub block_few : i < M → block + k < 4096 * 8
-    block_few l = let x = writing l in omega (arith, x.writes 0 x.some, h.wide, room_few)
+    block_few l = let x = writing l in omega (arith, x.writes 0 (omega (arith, x.some)), h.wide, room_few)
 
     -- one more iteration is made
     pub made_next : (ys ys' : List ℕ) → Spread (λ p. p < r) (block + k) s (kernel_of m turns r (read_of m v M src i)) ys ys'

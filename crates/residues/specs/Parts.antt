@@ -58,7 +58,7 @@ pub record Reading (m v M i r : ℕ) (src : List ℕ) : Type 0 where
 
 -- what writing outputs asks for, in a list of `room` cells
 pub record Writing (to s r room : ℕ) : Type 0 where
-  pub some : 0 < r
+  pub some : 2 ≤ r
   pub few : r ≤ 8
   pub writes : (p : ℕ) → p < r → to + p * s < room
 

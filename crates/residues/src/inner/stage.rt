@@ -53,7 +53,8 @@ impl Stage {
         requires { Writing to self.now.stride R (length dst.old) × Under self.now.modulus R c.now × (b < 2) }
         ensures { Spread (Every b R) to self.now.stride (kernel_of self.now.modulus self.now.turns R (cells c.now)) dst.old dst.new }
     {
-        for p in (b..R).step_by(2) {
+        for k in 0..(R - b).div_ceil(2) {
+            let p = b + 2 * k;
             dst[to + p * self.stride] = self.output(c, p) as u32;
         }
     }

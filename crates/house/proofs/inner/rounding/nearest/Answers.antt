@@ -1,5 +1,5 @@
 -- `house::inner::rounding::nearest` meets its contract. Assumes nothing.
-use Rattle.sequences.proofs.Basics.{◌≡◌, refl, sym, ap, ◌∙◌, subst, ℕ, ◌*◌, ◌%◌, ◌^◌, ◌<◌, ◌≤◌, le_trans, arith, lit≤, pow_pos, pow_mono}
+use Rattle.sequences.proofs.Basics.{◌≡◌, refl, ap, ◌∙◌, ℕ, ◌*◌, ◌%◌, ◌^◌, ◌≤◌, arith}
 use lib.Ieee.Nearest.{closest}
 use Rattle.house.proofs.Nearest.{few_beyond, shifted, nearest_is, cast_in_float, no_nan}
 use Rattle.house.proofs.inner.rounding.nearest.Goals as goal
@@ -10,16 +10,6 @@ near c k u q few v e = e ∙ ap (λ (x : ℕ). closest c x) (v ∙ shifted k few
 
 pub overflow_shl-k : goal.overflow_shl-k
 overflow_shl-k c = omega (arith, few_beyond c.args.c c.beyond-k.result c.requires c.beyond-k.ensures)
-
-pub closest-q-requires : goal.closest-q-requires
-closest-q-requires c =
-    let k = c.beyond-k.result in
-    let few = few_beyond c.args.c k c.requires c.beyond-k.ensures in
-    let e = shifted k few in (
-      subst (λ (u : ℕ). 0 < u) (sym e) (pow_pos k),
-      subst (λ (u : ℕ). u ≤ 2 ^ 61) (sym e) (le_trans (pow_mono few) (lit≤ tt)),
-      omega arith,
-    )
 
 pub overflow_add-scale : goal.overflow_add-scale
 overflow_add-scale c = omega (arith, few_beyond c.args.c c.beyond-k.result c.requires c.beyond-k.ensures)

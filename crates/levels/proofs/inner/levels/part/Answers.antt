@@ -1,12 +1,8 @@
 -- `levels::inner::levels::part` meets its contract. Assumes nothing.
-use Rattle.sequences.proofs.Basics.{refl, arith}
+use Rattle.sequences.proofs.Basics.{refl}
 use Rattle.levels.specs.Parts.{parts}
 use Rattle.levels.proofs.Parts.{part_between}
 use Rattle.levels.proofs.inner.levels.part.Goals as goal
-
-pub overflow_cast-result : goal.overflow_cast-result
-unfolding parts
-overflow_cast-result c = omega (arith, (part_between c.args.k c.requires).1)
 
 pub returns : goal.returns
 unfolding parts

@@ -1,11 +1,8 @@
 -- `levels::inner::levels::step_of` meets its contract. Assumes nothing.
 use Rattle.sequences.proofs.Basics.{arith}
 use Rattle.levels.specs.Levels.{step_of}
-use Rattle.levels.proofs.Steps.{no_nan, upper_half}
+use Rattle.levels.proofs.Steps.{upper_half}
 use Rattle.levels.proofs.inner.levels.step_of.Goals as goal
-
-pub float_to_bits-result : goal.float_to_bits-result
-float_to_bits-result c = no_nan _ _ c.if-power.true
 
 pub overflow_cast-result : goal.overflow_cast-result
 overflow_cast-result c = omega (arith, upper_half c.args.power c.well_formed.0.1)

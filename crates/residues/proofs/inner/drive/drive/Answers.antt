@@ -1,9 +1,9 @@
 -- `residues::inner::drive::drive` meets its contract. Assumes nothing.
-use Rattle.sequences.proofs.Basics.{◌≡◌, refl, sym, ◌∙◌, ℕ, arith, List}
+use Rattle.sequences.proofs.Basics.{refl, ◌∙◌, ℕ, List}
 use Rattle.schedule.specs.Buffers.{Two, alternated}
 use Rattle.schedule.proofs.Buffers.{even_next, odd_next}
 use Rattle.residues.specs.Residues.{stage_of}
-use Rattle.residues.proofs.Runs.{as_long, even_workable, odd_workable}
+use Rattle.residues.proofs.Runs.{even_workable, odd_workable}
 use Rattle.residues.proofs.inner.drive.drive.Goals as goal
 use Rattle.residues.proofs.inner.drive.drive.Goals.{then-k-eq0, else-k-eq0}
 
@@ -29,16 +29,3 @@ loop-k-preserved c =
       | then-k-eq0 w ↦ even_next f b l.k l.«data» l.scratch _ _ w.if-k-eq0.true l.invariant.0 w.data-is (w.scratch-is ∙ w.work.ensures)
       | else-k-eq0 w ↦ odd_next f b l.k l.«data» l.scratch _ _ w.if-k-eq0.false l.invariant.1 (w.data-is ∙ w.work-else-k-eq0.ensures) w.scratch-is
     ]
-
-pub shape_of-data : goal.shape_of-data
-shape_of-data c = let l = c.loop-k in (as_long c.args.scratch.now c.requires l.«data» l.scratch l.k l.invariant).0 ∙ sym c.requires.long
-
-pub shape_of-scratch : goal.shape_of-scratch
-shape_of-scratch c = let l = c.loop-k in (as_long c.args.scratch.now c.requires l.«data» l.scratch l.k l.invariant).1 ∙ sym c.requires.wide
-
-pub returns : goal.returns
-returns c =
-    let l = c.loop-k in
-    let e : l.k ≡ c.args.plan.count = omega arith in
-    let both = rw e at l.invariant in
-    record { data_after = both.0; scratch_after = both.1 }
