@@ -3,8 +3,8 @@ use Rattle.std.proofs.Common.{arith}
 use Rattle.listen_input.proofs.Walking.{goes_on}
 use Rattle.listen_input.proofs.inner.source.walked.Goals as goal
 
-pub loop-window-smaller : goal.loop-window-smaller
-loop-window-smaller c = omega (arith, goes_on _ _ _ _ c.step-w.ensures c.if-not-w.false)
+pub loop-read-smaller : goal.loop-read-smaller
+loop-read-smaller c = omega (arith, goes_on _ _ _ _ c.step-w.ensures c.if-not-w.false)
 
-pub loop-window-preserved : goal.loop-window-preserved
-loop-window-preserved c = (goes_on _ _ _ _ c.step-w.ensures c.if-not-w.false).1
+pub loop-read-preserved : goal.loop-read-preserved
+loop-read-preserved c = (goes_on _ _ _ _ c.step-w.ensures c.if-not-w.false).1

@@ -2,8 +2,8 @@
 use Rattle.std.proofs.Common.{◌≤◌, ◌-◌}
 use Rattle.listen_input.proofs.inner.source.walked.Given as goal
 
-abbrev pub invariant-loop-window : goal.invariant-loop-window
-invariant-loop-window l = l.at ≤ l.total
+abbrev pub invariant-loop-read : goal.invariant-loop-read
+invariant-loop-read l = l.at ≤ l.total
 
-abbrev pub decreases-loop-window : goal.decreases-loop-window
-decreases-loop-window l = l.total - l.at
+abbrev pub decreases-loop-read : goal.decreases-loop-read
+decreases-loop-read l = l.total - l.at
