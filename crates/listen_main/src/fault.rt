@@ -26,21 +26,38 @@ pub enum Fault {
     OtherSize { total: usize, came: usize },
 }
 
+impl Fault {
+    // The row of the table of refusals, and the place, where it is one.
+    fn refusal(self) -> Option<Refusal> {
+        match self {
+            Fault::NoBlock { .. } | Fault::NoPlan => Some(Refusal::NotHoused),
+            Fault::NoBand { .. } => Some(Refusal::Bins),
+            Fault::NoTwiddles(why) | Fault::Unheard(why) => Some(why),
+            Fault::Ended { came } => Some(Refusal::Wav(came)),
+            Fault::OtherSize { .. } => Some(Refusal::Wav(4)),
+            Fault::Input(_) | Fault::Output(_) | Fault::AboveFull | Fault::TooLow { .. } => None,
+        }
+    }
+}
+
 impl Display for Fault {
     fn fmt<W: fmt::Write>(&self, f: &mut fmt::Formatter<W>) -> fmt::Result {
+        if let Some(why) = self.refusal() {
+            write!(f, "refused {} at {}: ", why.number(), why.place())?;
+        }
         match self {
             Fault::Input(fault) => write!(f, "{fault}"),
             Fault::Output(fault) => write!(f, "{fault}"),
-            Fault::NoBlock { asked, nearest } => write!(
-                f,
-                "refused 7 at 0: no block of {asked} samples is served: the nearest that is has {nearest}"
-            ),
-            Fault::NoPlan => f.write_str(
-                "refused 7 at 0: no block of this length is served: take 1680",
-            ),
+            Fault::NoBlock { asked, nearest } => {
+                write!(
+                    f,
+                    "no block of {asked} samples is served: the nearest that is has {nearest}"
+                )
+            }
+            Fault::NoPlan => f.write_str("no block of this length is served: take 1680"),
             Fault::NoBand { highest, lowest } => write!(
                 f,
-                "refused 14 at 0: this is no band with bins of its own: take --band LO HI with HI at most {highest} and LO at least {lowest} less than HI"
+                "this is no band with bins of its own: take --band LO HI with HI at most {highest} and LO at least {lowest} less than HI"
             ),
             Fault::AboveFull => f.write_str(
                 "no tone reaches a threshold above 0 dB: take --threshold 0 or less",
@@ -51,25 +68,14 @@ impl Display for Fault {
                 *tenths / 10,
                 *tenths % 10
             ),
-            Fault::NoTwiddles(why) => write!(
-                f,
-                "refused {} at {}: twiddles cannot be filled",
-                why.number(),
-                why.place()
-            ),
-            Fault::Unheard(why) => write!(
-                f,
-                "refused {} at {}: a block cannot be heard",
-                why.number(),
-                why.place()
-            ),
-            Fault::Ended { came } => write!(
-                f,
-                "refused 17 at {came}: the file ended while it was heard: copy it again, whole"
+            Fault::NoTwiddles(_) => f.write_str("twiddles cannot be filled"),
+            Fault::Unheard(_) => f.write_str("a block cannot be heard"),
+            Fault::Ended { .. } => f.write_str(
+                "the file ended while it was heard: copy it again, whole",
             ),
             Fault::OtherSize { total, came } => write!(
                 f,
-                "refused 17 at 4: the RIFF size says {total} bytes in all, and {came} came: the recording is cut, or was never ended"
+                "the RIFF size says {total} bytes in all, and {came} came: the recording is cut, or was never ended"
             ),
         }
     }

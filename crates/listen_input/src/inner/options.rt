@@ -1,5 +1,5 @@
 // The words of the call: what is to be heard, and how.
-ghost use Rattle.std.specs.Prelude.{◌≡◌, ◌≤◌, ◌<◌, OnSome};
+ghost use Rattle.std.specs.Prelude.{◌+◌, ◌≤◌, ◌<◌, OnSome};
 
 use crate::inner::source::Source;
 use crate::inner::told::tell;
@@ -83,11 +83,12 @@ impl Display for Fault {
 // The most words that are read.
 const WORDS: usize = 64;
 
-// The words that are still to be read, of so many.
+// The words that are still to be read: the place of the next one, and how many they are.
 #[derive(Clone, Copy)]
 struct Words {
     next: usize,
-    count: usize,
+    left: usize,
+    ghost few: { next + left ≤ 65 },
 }
 
 impl Words {
@@ -96,7 +97,10 @@ impl Words {
         let mut nothing = [0u8; 0];
         for i in 0..WORDS + 1 {
             if let Err(FillError::NotPresent) = rt.arg(i, &mut nothing) {
-                return Some(Words { next: 1, count: i });
+                return Some(Words {
+                    next: 1,
+                    left: i.saturating_sub(1),
+                });
             }
         }
         None
@@ -104,15 +108,16 @@ impl Words {
 
     // The place of the next word.
     fn next(&mut self) -> Option<usize>
-        ensures count { self.new.count ≡ self.old.count }
-        ensures next { self.old.next ≤ self.new.next }
-        ensures some { OnSome result ((self.old.next < self.new.next) × (self.old.next < self.old.count)) }
+        ensures left { self.new.left ≤ self.old.left }
+        ensures some { OnSome result (self.new.left < self.old.left) }
     {
-        if self.next >= self.count {
+        if self.left == 0 {
             return None;
         }
+        let place = self.next;
         self.next += 1;
-        Some(self.next - 1)
+        self.left -= 1;
+        Some(place)
     }
 
     // What the next word says.
@@ -122,8 +127,7 @@ impl Words {
         read: F,
     ) -> Option<usize>
         requires { F.IsAlwaysCallable read }
-        ensures count { self.new.count ≡ self.old.count }
-        ensures next { self.old.next ≤ self.new.next }
+        ensures { self.new.left ≤ self.old.left }
     {
         let mut word = [0u8; 4096];
         let length = rt.arg(self.next()?, &mut word).ok()?;
@@ -141,8 +145,7 @@ struct Asked {
 impl Asked {
     // Takes the word at a place, and what belongs to it.
     fn take(&mut self, rt: &HostRuntime, place: usize, words: &mut Words) -> Result<(), Fault>
-        ensures count { words.new.count ≡ words.old.count }
-        ensures next { words.old.next ≤ words.new.next }
+        ensures { words.new.left ≤ words.old.left }
     {
         let mut word = [0u8; 4096];
         let length = rt.arg(place, &mut word).map_err(|_| Fault::TooLong)?;

@@ -3,7 +3,7 @@ ghost use Rattle.std.specs.Prelude.{◌≡◌, ◌+◌, ◌-◌, ◌^◌, ◌≤
 
 use chunks::inner::walk::{Walk, begin, step};
 use little::inner::numbers::four;
-use refusal::Verdict;
+use refusal::{Refusal, Verdict};
 use std::fmt::Display;
 use std::fs::File;
 use std::io::{Read, Seek, SeekFrom, Stdin};
@@ -40,15 +40,11 @@ pub struct Broken {
     pub after: usize,
 }
 
-// Why there is nothing to hear: a read failed, or a file is refused, by a row of the table of refusals at a place of the file.
+// Why there is nothing to hear: a read failed, or a file is refused.
 #[derive(Clone, Copy)]
 pub enum Fault {
     Unread,
-    Refused {
-        number: usize,
-        place: usize,
-        why: Why,
-    },
+    Refused { refusal: Refusal, why: Why },
 }
 
 // What is wrong with a file that is refused.
@@ -71,10 +67,14 @@ impl Display for Fault {
     fn fmt<W: fmt::Write>(&self, f: &mut fmt::Formatter<W>) -> fmt::Result {
         match self {
             Fault::Unread => f.write_str("the input cannot be read"),
-            Fault::Refused { number, place, why } => write!(
-                f,
-                "refused {number} at {place}: {why}"
-            ),
+            Fault::Refused { refusal, why } => {
+                write!(
+                    f,
+                    "refused {} at {}: {why}",
+                    refusal.number(),
+                    refusal.place()
+                )
+            }
         }
     }
 }
@@ -195,10 +195,10 @@ pub fn found(source: &mut Source) -> Result<Start, Fault> {
         None => length_of(&mark, came),
     };
     let w = begin(&mark, total);
-    if w.more {
-        return walked(source, total);
+    if !w.more {
+        return at_samples(w, 0, total);
     }
-    Err(refusal_of(w, 0, total))
+    walked(source, total)
 }
 
 // How long a stream is to be that began with so many bytes: what its RIFF size says, or what came where that is not 12 bytes.
@@ -235,8 +235,7 @@ fn walked(source: &mut Source, total: usize) -> Result<Start, Fault>
 // Nothing to hear, since the file ends early, at a place.
 fn ended(place: usize) -> Fault {
     Fault::Refused {
-        number: 17,
-        place,
+        refusal: Refusal::Wav(place),
         why: Why::EndsEarly,
     }
 }
@@ -284,15 +283,13 @@ fn at_samples(w: Walk, at: usize, total: usize) -> Result<Start, Fault> {
             at: w.at,
             total: Some(total),
         }),
-        Verdict::Refused(_) => Err(refusal_of(w, at, total)),
+        Verdict::Refused(refusal) => Err(refused(refusal, at, total)),
     }
 }
 
-// Why a file of so many bytes is refused, at the chunk that begins at a place.
-fn refusal_of(w: Walk, at: usize, total: usize) -> Fault {
-    let verdict = w.verdict;
-    let number = verdict.number() as usize;
-    let place = verdict.place();
+// A file of so many bytes that is refused, at the chunk that begins at a place.
+fn refused(refusal: Refusal, at: usize, total: usize) -> Fault {
+    let place = refusal.place();
     let why = if place >= total {
         Why::EndsEarly
     } else if at == 0 {
@@ -302,7 +299,7 @@ fn refusal_of(w: Walk, at: usize, total: usize) -> Fault {
     } else {
         why_no_chunk(place - at)
     };
-    Fault::Refused { number, place, why }
+    Fault::Refused { refusal, why }
 }
 
 // What is wrong with a file's mark, by the field.

@@ -1,6 +1,7 @@
 -- `found` is safe: a file with a walk has the 12 bytes of its mark.
+use Rattle.std.proofs.Common.{rules}
 use Rattle.listen_input.proofs.Walking.{has_mark}
 use Rattle.listen_input.proofs.inner.source.found.Goals as goal
 
 pub walked-requires : goal.walked-requires
-walked-requires c = has_mark _ _ c.begin-w.ensures c.if-w.true
+walked-requires c = has_mark _ _ c.begin-w.ensures (search rules)
