@@ -1,5 +1,5 @@
 // Why samples cannot be heard as the options ask, or no further.
-use listen_input::inner::source::Broken;
+use input_rows::inner::rows::Broken;
 use listen_input::inner::told::Unwritten;
 use listen_input::inner::{source, told};
 use refusal::Refusal;

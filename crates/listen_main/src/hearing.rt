@@ -6,8 +6,9 @@ use crate::fault::Fault;
 use crate::progress::Progress;
 use crate::setup::Setup;
 use hear::Decision;
+use input_rows::inner::rows::{count, fill};
 use listen_input::inner::options::Options;
-use listen_input::inner::source::{Broken, Source, Start, fill, skip};
+use listen_input::inner::source::{Source, Start, skip};
 use listen_input::inner::told::{print_line, tell};
 use listen_text::inner::lines::{block_line, left_line, whole_line};
 use listening::Block;
@@ -223,16 +224,5 @@ fn measured(source: &mut Source, start: Start, heard: usize) -> Result<(), Fault
                 Ok(())
             }
         }
-    }
-}
-
-// How many bytes came, up to the end or a read that failed.
-fn count(came: Result<usize, Broken>) -> usize
-    requires came { IfOk came (λ n. n ≤ 4611686018427387904) }
-    requires broken { IfErr came (λ e. e.after ≤ 4611686018427387904) }
-    ensures { result ≤ 4611686018427387904 }
-{
-    match came {
-        Ok(count) | Err(Broken { after: count }) => count,
     }
 }

@@ -2,6 +2,7 @@
 ghost use Rattle.std.specs.Prelude.{◌≡◌, ◌+◌, ◌-◌, ◌^◌, ◌≤◌, ◌<◌, length, IfOk, IfSome, IfErr};
 
 use chunks::inner::walk::{Walk, begin, step};
+use input_rows::inner::rows::{Broken, fill};
 use little::inner::numbers::four;
 use refusal::{Refusal, Verdict};
 use std::fmt::Display;
@@ -32,12 +33,6 @@ pub struct Start {
     pub samples: usize,
     pub at: usize,
     pub total: Option<usize>,
-}
-
-// A read that failed behind so many bytes.
-#[derive(Clone, Copy)]
-pub struct Broken {
-    pub after: usize,
 }
 
 // Why there is nothing to hear: a read failed, or a file is refused.
@@ -118,22 +113,6 @@ pub fn bare(rate: usize) -> Start {
         at: 0,
         total: None,
     }
-}
-
-// Reads into a row until it is full or the input ends, and answers how many bytes came.
-pub fn fill(source: &mut Source, row: &mut [u8]) -> Result<usize, Broken>
-    ensures came { IfOk result (λ n. n ≤ length row.old) }
-    ensures broken { IfErr result (λ e. e.after ≤ length row.old) }
-{
-    let mut done: usize = 0;
-    while done < row.len() {
-        match source.read(&mut row[done..]) {
-            Err(_) => return Err(Broken { after: done }),
-            Ok(0) => return Ok(done),
-            Ok(more) => done += more,
-        }
-    }
-    Ok(done)
 }
 
 // Reads so many bytes, or all that there are, keeps none, and answers how many came.

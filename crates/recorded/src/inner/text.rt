@@ -1,6 +1,7 @@
 // The lines of a record, and their columns: lists and numbers.
 ghost use Rattle.std.specs.Prelude.{◌≡◌, ◌≤◌, ◌<◌, length, take, IfSome};
 
+use input_rows::inner::rows::{count, fill};
 use std::io::Read;
 
 // A lent list: its bytes, and how many of them it has. A fixed array, since a list has few bytes and this crate takes no heap.
@@ -51,14 +52,7 @@ pub fn read_full<R: Read>(from: &mut R, row: &mut [u8]) -> usize
     ensures count { result ≤ length row.new }
     ensures row { length row.new ≡ length row.old }
 {
-    let mut done: usize = 0;
-    while done < row.len() {
-        match from.read(&mut row[done..]) {
-            Ok(0) | Err(_) => return done,
-            Ok(more) => done += more,
-        }
-    }
-    done
+    count(fill(from, row))
 }
 
 // The list that a column holds, up to the first place with no entry.
