@@ -1,6 +1,6 @@
 // The cases of a length: whose twiddles are lent, the kind of what is read, a seed, and checksums of what is left. The steps at the ends
 // alone are asked once each, and inverse transforms, by the unguarded core, at every width.
-ghost use Rattle.std.specs.Prelude.{◌≡◌, ◌≤◌, length};
+ghost use Rattle.std.specs.Prelude.{◌≤◌, length};
 
 use counts::inner::stages::{end_count, twiddle_start};
 use ends::inner::cells::{postprocess_fft, preprocess_ifft};
