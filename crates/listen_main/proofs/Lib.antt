@@ -1,3 +1,2 @@
 -- The laws that the proofs share.
-pub mod Parts
 pub mod Lengths

@@ -8,37 +8,41 @@
 #![tactic(auto)]
 
 mod drawing;
+mod fault;
 mod hearing;
+mod progress;
+mod setup;
 
-use listen_input::inner::options::Options;
-use listen_input::inner::source::{Source, Start};
-use listen_input::inner::{options, source};
+use crate::fault::Fault;
+use listen_input::inner::options::{Call, Options, chosen, opened};
+use listen_input::inner::source::{Source, Start, bare, found};
+use listen_input::inner::told::tell;
 
 fn main(rt: HostRuntime) {
-    let chosen = options::chosen(&rt);
-    if chosen.is_right {
-        begin(&rt, chosen);
+    let Some(call) = chosen(&rt) else {
+        return;
+    };
+    let Some(mut source) = opened(&rt, call.input) else {
+        return;
+    };
+    if let Err(fault) = heard(&rt, &mut source, call) {
+        tell(&rt, fault);
     }
 }
 
-// Opens what is to be heard, and hears it.
-fn begin(rt: &HostRuntime, chosen: Options) {
-    let Some(mut source) = options::opened(rt, chosen) else {
-        return;
-    };
-    let start = start_of(rt, &mut source, chosen);
-    if start.rate == 0 {
-        return;
+// Hears what was opened.
+fn heard(rt: &HostRuntime, source: &mut Source, call: Call) -> Result<(), Fault> {
+    let start = start_of(source, call.options)?;
+    if start.rate == 0 || start.rate > 192000 {
+        return Ok(());
     }
-    if start.rate <= 192000 {
-        hearing::prepare(rt, &mut source, chosen, start);
-    }
+    hearing::hear(rt, source, call.options, start)
 }
 
 // Where the samples begin.
-fn start_of(rt: &HostRuntime, source: &mut Source, chosen: Options) -> Start {
-    if chosen.raw > 0 {
-        return source::bare(chosen.raw);
+fn start_of(source: &mut Source, options: Options) -> Result<Start, Fault> {
+    match options.raw {
+        Some(rate) => Ok(bare(rate)),
+        None => Ok(found(source)?),
     }
-    source::found(rt, source, chosen.is_stream)
 }

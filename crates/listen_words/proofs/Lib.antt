@@ -1,5 +1,2 @@
--- The laws that the proofs share, by subject.
-pub mod Choosing
-pub mod Same
+-- The laws that the proofs share.
 pub mod Digits
-pub mod Signs

@@ -2,10 +2,3 @@
 #![tactic(auto)]
 
 pub mod inner;
-
-// A number, or none.
-#[derive(Clone, Copy)]
-pub struct Number {
-    pub known: bool,
-    pub value: usize,
-}

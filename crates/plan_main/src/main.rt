@@ -2,36 +2,17 @@
 // The first 4,096 bytes of standard input count. Radices are parted by blanks and line ends: echo 3 2 2 | ./ladlespindle plan
 #![tactic(auto)]
 
-ghost use Rattle.std.specs.Prelude.{◌≡◌, ◌≤◌, IfOk, length};
-
-use std::io;
-use std::io::{Eprint, Input, Print, Read};
+use input_rows::inner::rows::fill;
+use std::io::{Eprint, Input, Print};
 use text::Text;
 
 // Prints what the report says of the first 4,096 bytes of the input; where a read fails it says so and prints no plan.
 fn main(rt: HostRuntime) {
     let mut input = [0u8; 4096];
-    match read_input(&rt, &mut input) {
+    match fill(&mut rt.reader(), &mut input) {
         Ok(n) => print(&rt, &input[..n]),
         Err(_) => say(&rt, "plan: standard input cannot be read\n"),
     }
-}
-
-// Reads until the buffer is full or the input ends, and answers how many bytes that was, or the error where a read fails.
-fn read_input(rt: &impl Input, input: &mut [u8]) -> io::Result<usize>
-    requires { length input.old ≡ 4096 }
-    ensures { IfOk result (λ n. n ≤ 4096) }
-{
-    let mut reader = rt.reader();
-    let mut done: usize = 0;
-    while done < 4096 {
-        let more = reader.read(&mut input[done..])?;
-        if more == 0 {
-            return Ok(done);
-        }
-        done += more;
-    }
-    Ok(4096)
 }
 
 // Prints the report on an input.

@@ -1,259 +1,251 @@
-// The words of the call.
-ghost use Rattle.std.specs.Prelude.{◌<◌};
+// The words of the call: what is to be heard, and how.
+ghost use Rattle.std.specs.Prelude.{◌+◌, ◌≤◌, ◌<◌, OnSome};
 
-use crate::inner::source::{Source, least};
-use crate::inner::told::{fault, say};
-use listen_words::Number;
-use listen_words::inner::words::{is_same, level_of, number_of};
+use crate::inner::source::Source;
+use crate::inner::told::tell;
+use listen_words::inner::words::{level_of, number_of};
 use std::env::FillError;
+use std::fmt::Display;
 use std::fs::File;
+use std::io::Write;
 use std::rt::Env;
-use std::{fs, io};
+use std::{fmt, fs, io};
 
-// What is to be heard, and how.
+// What is to be heard: standard input, or the file that a word of the call names.
+#[derive(Clone, Copy)]
+pub enum Input {
+    Stream,
+    Named(usize),
+}
+
+// How it is to be heard: the length of blocks, the band, the level of the threshold, 16,000 at full scale, the rate of bare samples, none for a
+// WAV file, and whether its spectrum is drawn.
 #[derive(Clone, Copy)]
 pub struct Options {
-    // which word names the file, 0 for none yet
-    pub file: usize,
     pub block: usize,
     pub lo: usize,
     pub hi: usize,
-    // the level of the threshold, 16,000 at full scale
     pub level: usize,
-    // the rate of bare samples, 0 for a WAV file
-    pub raw: usize,
+    pub raw: Option<usize>,
     pub plot: bool,
-    pub is_stream: bool,
-    // whether the words are right, and how many more the last one took
-    pub is_right: bool,
-    pub took: usize,
+}
+
+// What the words of a call ask for.
+#[derive(Clone, Copy)]
+pub struct Call {
+    pub input: Input,
+    pub options: Options,
+}
+
+// What is wrong with the words of a call; where a word of its own is, its place.
+#[derive(Clone, Copy)]
+enum Fault {
+    TooMany,
+    TooLong,
+    NoInput,
+    NoBlock,
+    NoRate,
+    OtherRate,
+    NoBand,
+    NoLevel,
+    NoOption(usize),
+    SecondInput(usize),
+}
+
+impl Fault {
+    // The word that ends the sentence.
+    fn word(self) -> Option<usize> {
+        match self {
+            Fault::NoOption(place) | Fault::SecondInput(place) => Some(place),
+            _ => None,
+        }
+    }
+}
+
+impl Display for Fault {
+    fn fmt<W: fmt::Write>(&self, f: &mut fmt::Formatter<W>) -> fmt::Result {
+        f.write_str(match self {
+            Fault::TooMany => "there are too many words",
+            Fault::TooLong => "a word is too long",
+            Fault::NoInput => "which file? - is standard input",
+            Fault::NoBlock => "--block wants a number of samples, as in --block 1680",
+            Fault::NoRate => "--raw wants samples a second, as in --raw 16000",
+            Fault::OtherRate => "--raw wants 1 to 192000 samples a second",
+            Fault::NoBand => "--band wants two numbers of hertz, as in --band 200 300",
+            Fault::NoLevel =>
+                "--threshold wants decibels with at most one decimal, as in --threshold -30.1",
+            Fault::NoOption(_) => "there is no option ",
+            Fault::SecondInput(_) => "one file at a time, and not also ",
+        })
+    }
 }
 
 // The most words that are read.
 const WORDS: usize = 64;
 
-// How many words the call has, the program's name among them, or 65 where there are more.
-fn word_count(rt: &HostRuntime) -> usize {
-    let mut nothing = [0u8; 0];
-    for i in 0..WORDS + 1 {
-        if let Err(FillError::NotPresent) = rt.arg(i, &mut nothing) {
-            return i;
+// The words that are still to be read: the place of the next one, and how many they are.
+#[derive(Clone, Copy)]
+struct Words {
+    next: usize,
+    left: usize,
+    ghost few: { next + left ≤ 65 },
+}
+
+impl Words {
+    // The words behind the program's name; none where there are more than are read.
+    fn of_call(rt: &HostRuntime) -> Option<Words> {
+        let mut nothing = [0u8; 0];
+        for i in 0..WORDS + 1 {
+            if let Err(FillError::NotPresent) = rt.arg(i, &mut nothing) {
+                return Some(Words {
+                    next: 1,
+                    left: i.saturating_sub(1),
+                });
+            }
+        }
+        None
+    }
+
+    // The place of the next word.
+    fn next(&mut self) -> Option<usize>
+        ensures left { self.new.left ≤ self.old.left }
+        ensures some { OnSome result (self.new.left < self.old.left) }
+    {
+        if self.left == 0 {
+            return None;
+        }
+        let place = self.next;
+        self.next += 1;
+        self.left -= 1;
+        Some(place)
+    }
+
+    // What the next word says.
+    fn value<F: FnOnce(&[u8]) -> Option<usize>>(
+        &mut self,
+        rt: &HostRuntime,
+        read: F,
+    ) -> Option<usize>
+        requires { F.IsAlwaysCallable read }
+        ensures { self.new.left ≤ self.old.left }
+    {
+        let mut word = [0u8; 4096];
+        let length = rt.arg(self.next()?, &mut word).ok()?;
+        read(&word[..length])
+    }
+}
+
+// What the words read so far ask for.
+#[derive(Clone, Copy)]
+struct Asked {
+    input: Option<Input>,
+    options: Options,
+}
+
+impl Asked {
+    // Takes the word at a place, and what belongs to it.
+    fn take(&mut self, rt: &HostRuntime, place: usize, words: &mut Words) -> Result<(), Fault>
+        ensures { words.new.left ≤ words.old.left }
+    {
+        let mut word = [0u8; 4096];
+        let length = rt.arg(place, &mut word).map_err(|_| Fault::TooLong)?;
+        match &word[..length] {
+            b"--plot" => self.options.plot = true,
+            b"--block" => self.options.block = words.value(rt, number_of).ok_or(Fault::NoBlock)?,
+            b"--raw" => self.options.raw = Some(rate(
+                words.value(rt, number_of).ok_or(Fault::NoRate)?,
+            )?),
+            b"--band" => {
+                self.options.lo = words.value(rt, number_of).ok_or(Fault::NoBand)?;
+                self.options.hi = words.value(rt, number_of).ok_or(Fault::NoBand)?;
+            }
+            b"--threshold" => self.options.level = words.value(rt, level_of).ok_or(Fault::NoLevel)?,
+            b"-" => self.hear(Input::Stream, place)?,
+            [b'-', ..] => return Err(Fault::NoOption(place)),
+            _ => self.hear(Input::Named(place), place)?,
+        }
+        Ok(())
+    }
+
+    // Takes the word that says what is to be heard.
+    fn hear(&mut self, input: Input, place: usize) -> Result<(), Fault> {
+        if self.input.is_some() {
+            return Err(Fault::SecondInput(place));
+        }
+        self.input = Some(input);
+        Ok(())
+    }
+}
+
+// A rate of bare samples.
+fn rate(asked: usize) -> Result<usize, Fault> {
+    if asked == 0 || asked > 192000 {
+        return Err(Fault::OtherRate);
+    }
+    Ok(asked)
+}
+
+// What the words ask for.
+fn call_of(rt: &HostRuntime) -> Result<Call, Fault> {
+    let mut words = Words::of_call(rt).ok_or(Fault::TooMany)?;
+    let mut asked = Asked {
+        input: None,
+        options: Options {
+            block: 1680,
+            lo: 200,
+            hi: 300,
+            level: 15699,
+            raw: None,
+            plot: false,
+        },
+    };
+    while let Some(place) = words.next() {
+        asked.take(rt, place, &mut words)?;
+    }
+    Ok(Call {
+        input: asked.input.ok_or(Fault::NoInput)?,
+        options: asked.options,
+    })
+}
+
+// What the words ask for, or none, with what is wrong with them told, and how to call.
+pub fn chosen(rt: &HostRuntime) -> Option<Call> {
+    match call_of(rt) {
+        Ok(call) => Some(call),
+        Err(fault) => {
+            tell_words(rt, fault);
+            None
         }
     }
-    WORDS + 1
 }
 
-// The words of the call, with what is wrong with them told.
-pub fn chosen(rt: &HostRuntime) -> Options {
-    let mut o = Options {
-        file: 0,
-        block: 1680,
-        lo: 200,
-        hi: 300,
-        level: 15699,
-        raw: 0,
-        plot: false,
-        is_stream: false,
-        is_right: true,
-        took: 0,
+// Tells what is wrong with the words.
+fn tell_words(rt: &HostRuntime, fault: Fault) {
+    let mut word = [0u8; 4096];
+    let length = match fault.word() {
+        Some(place) => rt.arg(place, &mut word).unwrap_or(0),
+        None => 0,
     };
-    let count = word_count(rt);
-    if count > WORDS {
-        return wrong(rt, o, b"there are too many words", b"");
-    }
-    let mut i: usize = 1;
-    while i < count {
-        o = with_word(rt, o, i);
-        if !o.is_right {
-            return o;
-        }
-        i += 1 + least(o.took, 2);
-    }
-    if o.file == 0 {
-        return wrong(rt, o, b"which file? - is standard input", b"");
-    }
-    o
-}
-
-// The options with a word and what belongs to it.
-fn with_word(rt: &HostRuntime, o: Options, i: usize) -> Options
-    requires { i < 64 }
-{
-    let mut word = [0u8; 4096];
-    let Ok(length) = rt.arg(i, &mut word) else {
-        return wrong(rt, o, b"a word is too long", b"");
-    };
-    with_named(rt, o, i, &word[..length])
-}
-
-// The same, of the word itself.
-fn with_named(rt: &HostRuntime, o: Options, i: usize, word: &[u8]) -> Options
-    requires { i < 64 }
-{
-    let mut p = o;
-    p.took = 0;
-    if is_same(word, b"--plot") {
-        p.plot = true;
-        return p;
-    }
-    if is_same(word, b"--block") {
-        return with_block(rt, p, number_at(rt, i + 1));
-    }
-    if is_same(word, b"--raw") {
-        return with_raw(rt, p, number_at(rt, i + 1));
-    }
-    if is_same(word, b"--band") {
-        return with_band(rt, p, number_at(rt, i + 1), number_at(rt, i + 2));
-    }
-    if is_same(word, b"--threshold") {
-        return with_level(rt, p, level_at(rt, i + 1));
-    }
-    with_file(rt, p, i, word)
-}
-
-// The number of a word.
-fn number_at(rt: &HostRuntime, i: usize) -> Number {
-    let mut word = [0u8; 4096];
-    let length = rt.arg(i, &mut word).unwrap_or(0);
-    number_of(&word[..length])
-}
-
-// The level of a word.
-fn level_at(rt: &HostRuntime, i: usize) -> Number {
-    let mut word = [0u8; 4096];
-    let length = rt.arg(i, &mut word).unwrap_or(0);
-    level_of(&word[..length])
-}
-
-// The options with a length of blocks.
-fn with_block(rt: &HostRuntime, o: Options, n: Number) -> Options {
-    if !n.known {
-        return wrong(
-            rt,
-            o,
-            b"--block wants a number of samples, as in --block 1680",
-            b"",
-        );
-    }
-    let mut p = o;
-    p.block = n.value;
-    p.took = 1;
-    p
-}
-
-// The options with a rate of bare samples.
-fn with_raw(rt: &HostRuntime, o: Options, n: Number) -> Options {
-    if !n.known {
-        return wrong(
-            rt,
-            o,
-            b"--raw wants samples a second, as in --raw 16000",
-            b"",
-        );
-    }
-    if n.value == 0 {
-        return wrong(rt, o, b"--raw wants 1 to 192000 samples a second", b"");
-    }
-    if n.value > 192000 {
-        return wrong(rt, o, b"--raw wants 1 to 192000 samples a second", b"");
-    }
-    let mut p = o;
-    p.raw = n.value;
-    p.took = 1;
-    p
-}
-
-// The options with a band.
-fn with_band(rt: &HostRuntime, o: Options, lo: Number, hi: Number) -> Options {
-    if !lo.known {
-        return wrong(
-            rt,
-            o,
-            b"--band wants two numbers of hertz, as in --band 200 300",
-            b"",
-        );
-    }
-    if !hi.known {
-        return wrong(
-            rt,
-            o,
-            b"--band wants two numbers of hertz, as in --band 200 300",
-            b"",
-        );
-    }
-    let mut p = o;
-    p.lo = lo.value;
-    p.hi = hi.value;
-    p.took = 2;
-    p
-}
-
-// The options with a threshold.
-fn with_level(rt: &HostRuntime, o: Options, n: Number) -> Options {
-    if !n.known {
-        return wrong(
-            rt,
-            o,
-            b"--threshold wants decibels with at most one decimal, as in --threshold -30.1",
-            b"",
-        );
-    }
-    let mut p = o;
-    p.level = n.value;
-    p.took = 1;
-    p
-}
-
-// The options with a file.
-fn with_file(rt: &HostRuntime, o: Options, i: usize, word: &[u8]) -> Options {
-    let is_stream = is_same(word, b"-");
-    if !is_stream && is_option(word) {
-        return wrong(rt, o, b"there is no option ", word);
-    }
-    if o.file > 0 {
-        return wrong(rt, o, b"one file at a time, and not also ", word);
-    }
-    let mut p = o;
-    p.file = i;
-    p.is_stream = is_stream;
-    p
-}
-
-// Whether a word begins as options do.
-fn is_option(word: &[u8]) -> bool {
-    if word.len() == 0 {
-        return false;
-    }
-    word[0] == b'-'
-}
-
-// The options as words that are wrong, with what is wrong told, and how to call.
-fn wrong(rt: &HostRuntime, o: Options, what: &[u8], word: &[u8]) -> Options {
-    fault(rt, what, word);
-    say(
-        rt,
-        b"usage: ladlespindle listen FILE [--block N] [--band LO HI] [--threshold DB] [--raw RATE] [--plot]\n",
+    let mut errors = rt.stderr();
+    let _ = write!(errors, "listen: {fault}");
+    let _ = errors.write_all(&word[..length]);
+    let _ = errors.write_all(
+        b"\nusage: ladlespindle listen FILE [--block N] [--band LO HI] [--threshold DB] [--raw RATE] [--plot]\n",
     );
-    let mut p = o;
-    p.is_right = false;
-    p
 }
 
-// Opens the file, or says why it cannot.
-pub fn opened(rt: &HostRuntime, o: Options) -> Option<Source> {
-    if o.is_stream {
-        return Some(Source::Stream(rt.stdin()));
-    }
+// Opens what is to be heard, or tells why it cannot be opened.
+pub fn opened(rt: &HostRuntime, input: Input) -> Option<Source> {
+    let place = match input {
+        Input::Stream => return Some(Source::Stream(rt.stdin())),
+        Input::Named(place) => place,
+    };
     let mut path = [0u8; 4096];
-    let length = rt.arg(o.file, &mut path).unwrap_or(0);
+    let length = rt.arg(place, &mut path).unwrap_or(0);
     match file_at(rt, &path[..length]) {
         Ok(file) => Some(Source::Named(file)),
         Err(why) => {
-            say(rt, b"listen: cannot open ");
-            say(rt, &path[..length]);
-            say(rt, b": ");
-            say_why(rt, why);
-            say(rt, b"\n");
+            tell_unopened(rt, &path[..length], why);
             None
         }
     }
@@ -267,13 +259,17 @@ fn file_at(rt: &HostRuntime, path: &[u8]) -> io::Result<File> {
     }
 }
 
-// Says an error's text, without the number that the system gives it.
-fn say_why(rt: &HostRuntime, why: io::Error) {
-    let Ok(text) = format!(in rt.alloc(); "{why}") else {
-        return;
-    };
-    match text.split_once(" (os error ") {
-        Some((words, _)) => say(rt, words.as_bytes()),
-        None => say(rt, text.as_bytes()),
+// Tells that a file cannot be opened, by an error's text without the number that the system gives it.
+fn tell_unopened(rt: &HostRuntime, path: &[u8], why: io::Error) {
+    let mut errors = rt.stderr();
+    let _ = errors.write_all(b"listen: cannot open ");
+    let _ = errors.write_all(path);
+    let _ = errors.write_all(b": ");
+    if let Ok(text) = format!(in rt.alloc(); "{why}") {
+        let words = text
+            .split_once(" (os error ")
+            .map_or(text.as_str(), |(words, _)| words);
+        let _ = errors.write_all(words.as_bytes());
     }
+    let _ = errors.write_all(b"\n");
 }

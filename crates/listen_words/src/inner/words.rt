@@ -1,140 +1,76 @@
-// Numbers and levels read from words, and words told apart.
+// Numbers and levels read from words.
 ghost use Rattle.std.specs.Prelude.{◌≡◌, ◌<◌};
-ghost use Rattle.listen_words.specs.Words.{number_of, level_of, tenths_of, joined_of, below_of, above_of, same_as, no_number, numbered};
-
-use crate::Number;
-
-// Whether two words are the same.
-pub fn is_same(a: &[u8], b: &[u8]) -> bool
-    ensures { result ≡ same_as a.now b.now }
-{
-    if a.len() != b.len() {
-        return false;
-    }
-    let mut i: usize = 0;
-    while i < a.len() {
-        if a[i] != b[i] {
-            return false;
-        }
-        i += 1;
-    }
-    true
-}
-
-// No number.
-fn none() -> Number
-    ensures { result ≡ no_number }
-{
-    Number {
-        known: false,
-        value: 0,
-    }
-}
-
-// A number.
-fn number(value: usize) -> Number
-    ensures { result ≡ numbered value }
-{
-    Number { known: true, value }
-}
+ghost use Rattle.listen_words.specs.Words.{number_of, level_of, tenths_of, joined_of, below_of, above_of};
 
 // The number of a word of one to nine digits.
-pub fn number_of(word: &[u8]) -> Number
+pub fn number_of(word: &[u8]) -> Option<usize>
     ensures { result ≡ number_of word.now }
 {
-    let n = word.len();
-    if n == 0 {
-        return none();
-    }
-    if n > 9 {
-        return none();
+    if word.is_empty() || word.len() > 9 {
+        return None;
     }
     let mut value: usize = 0;
-    let mut i: usize = 0;
-    while i < n {
-        let b = word[i];
-        if b < 48 {
-            return none();
+    for b in word {
+        if !b.is_ascii_digit() {
+            return None;
         }
-        if b > 57 {
-            return none();
-        }
-        value = 10 * value + (b - 48) as usize;
-        i += 1;
+        value = 10 * value + (*b - b'0') as usize;
     }
-    number(value)
+    Some(value)
 }
 
 // The level of a word that says decibels, with one decimal or none: 16,000 for 0, and tenths of a decibel more or fewer.
-pub fn level_of(word: &[u8]) -> Number
+pub fn level_of(word: &[u8]) -> Option<usize>
     ensures { result ≡ level_of word.now }
 {
-    if word.len() == 0 {
-        return none();
+    match word {
+        [] => None,
+        [b'-', rest @ ..] => below(tenths_of(rest)),
+        _ => above(tenths_of(word)),
     }
-    if word[0] == b'-' {
-        return below(tenths_of(&word[1..]));
-    }
-    above(tenths_of(word))
 }
 
 // The tenths of a word of digits, of which the last may stand behind a point.
-fn tenths_of(word: &[u8]) -> Number
+fn tenths_of(word: &[u8]) -> Option<usize>
     ensures { result ≡ tenths_of word.now }
 {
     let n = word.len();
-    if n < 3 {
-        return joined(number_of(word), number(0));
+    if n < 3 || word[n - 2] != b'.' {
+        return joined(number_of(word), Some(0));
     }
-    let point = n - 2;
-    if word[point] != b'.' {
-        return joined(number_of(word), number(0));
-    }
-    let last = n - 1;
-    joined(number_of(&word[..point]), number_of(&word[last..]))
+    joined(number_of(&word[..n - 2]), number_of(&word[n - 1..]))
 }
 
 // Whole ones and tenths together; none where one is none, or from 1,600 on.
-fn joined(whole: Number, tenths: Number) -> Number
+fn joined(whole: Option<usize>, tenths: Option<usize>) -> Option<usize>
     ensures { result ≡ joined_of whole tenths }
 {
-    if !whole.known {
-        return none();
+    let whole = whole?;
+    let tenths = tenths?;
+    if whole > 1599 || tenths > 9 {
+        return None;
     }
-    if !tenths.known {
-        return none();
-    }
-    if whole.value > 1599 {
-        return none();
-    }
-    if tenths.value > 9 {
-        return none();
-    }
-    number(10 * whole.value + tenths.value)
+    Some(10 * whole + tenths)
 }
 
 // So many tenths below full scale.
-fn below(tenths: Number) -> Number
+fn below(tenths: Option<usize>) -> Option<usize>
     ensures { result ≡ below_of tenths }
 {
-    if !tenths.known {
-        return none();
+    let tenths = tenths?;
+    if tenths > 15999 {
+        return None;
     }
-    if tenths.value > 15999 {
-        return none();
-    }
-    number(16000 - tenths.value)
+    Some(16000 - tenths)
 }
 
 // So many tenths above it.
-fn above(tenths: Number) -> Number
+fn above(tenths: Option<usize>) -> Option<usize>
     ensures { result ≡ above_of tenths }
 {
-    if !tenths.known {
-        return none();
+    let tenths = tenths?;
+    if tenths > 15999 {
+        return None;
     }
-    if tenths.value > 15999 {
-        return none();
-    }
-    number(16000 + tenths.value)
+    Some(16000 + tenths)
 }

@@ -1,21 +1,23 @@
 // Where the twiddles of all stages stand: by a checksum, place by place, and in a row of words that is packed for a width.
-ghost use Rattle.std.specs.Prelude.{◌≡◌, ◌≤◌, length};
+ghost use Rattle.std.specs.Prelude.{◌≡◌, ◌+◌, ◌-◌, ◌≤◌, ◌<◌, length, IfSome};
+ghost use Rattle.std.specs.Iterator.{at_most};
 
 use crate::inner::plans::asked;
-use crate::inner::text::{number, read_full};
+use crate::inner::text::{Base, Line, number, read_line};
 use crate::inner::words::mixed;
 use floats::inner::words::paste;
 use packing::inner::places::place;
 use plan::Record;
 use std::io::Read;
 
-// No place: more than any stage has.
+// What a checksum takes for the place of a twiddle that stands nowhere.
 const NOWHERE: usize = 99999;
 
 // More twiddles than any plan has.
 const MANY: usize = 40000;
 
-// A twiddle: its stage, how many twiddles stand before the stage's, the stage's iterations and radix, its own iteration and number.
+// A twiddle: its stage, how many twiddles stand before the stage's, the stage's iterations and radix, its own iteration and number, and how many
+// twiddles stand before it.
 #[derive(Clone, Copy)]
 struct Twiddle {
     stage: usize,
@@ -24,144 +26,145 @@ struct Twiddle {
     r: usize,
     i: usize,
     k: usize,
+    at: usize,
 }
 
-// The first twiddle of a stage.
-fn begun(plan: Record, stage: usize, start: usize) -> Twiddle {
-    let r = if stage < 13 {
-        plan.radices[stage] as usize
-    } else {
-        0
-    };
-    let m = if r == 0 { 0 } else { plan.half / r };
-    Twiddle {
-        stage,
-        start,
-        m,
-        r,
-        i: 0,
-        k: 1,
-    }
-}
-
-// The twiddle after another, by stages, iterations and numbers; so many stand before it.
-fn after(plan: Record, t: Twiddle, passed: usize) -> Twiddle {
-    if t.k > 8 {
-        return t;
-    }
-    if t.i > 4096 {
-        return t;
-    }
-    if t.stage > 12 {
-        return t;
-    }
-    if t.k + 1 < t.r {
-        return Twiddle {
-            stage: t.stage,
-            start: t.start,
-            m: t.m,
-            r: t.r,
-            i: t.i,
-            k: t.k + 1,
-        };
-    }
-    if t.i + 1 < t.m {
-        return Twiddle {
-            stage: t.stage,
-            start: t.start,
-            m: t.m,
-            r: t.r,
-            i: t.i + 1,
+impl Twiddle {
+    // The first twiddle of a stage; its radix is 0 behind the last stage.
+    fn first_of(plan: Record, stage: usize, start: usize) -> Twiddle {
+        let r = plan.radices.get(stage).map_or(0, |r| *r as usize);
+        Twiddle {
+            stage,
+            start,
+            m: plan.half.checked_div(r).unwrap_or(0),
+            r,
+            i: 0,
             k: 1,
-        };
+            at: start,
+        }
     }
-    begun(plan, t.stage + 1, passed)
+
+    // The twiddle after this one, by stages, iterations and numbers.
+    fn next_of(self, plan: Record) -> Twiddle {
+        let at = self.at.saturating_add(1);
+        let k = self.k.saturating_add(1);
+        let i = self.i.saturating_add(1);
+        if k < self.r {
+            Twiddle { k, at, ..self }
+        } else if i < self.m {
+            Twiddle {
+                i,
+                k: 1,
+                at,
+                ..self
+            }
+        } else {
+            Twiddle::first_of(plan, self.stage.saturating_add(1), at)
+        }
+    }
+
+    // Where twiddle k of iteration i of the same stage stands by the library, if the stage has one.
+    fn place_of(self, width: usize, i: usize, k: usize) -> Option<usize> {
+        if self.m > 4096
+            || self.r > 8
+            || i >= self.m
+            || k == 0
+            || k >= self.r
+            || width == 0
+            || width > 4
+        {
+            return None;
+        }
+        Some(place(self.m, self.r, width, i, k))
+    }
+
+    // Where its words begin among so many that are packed for a width, if they are there.
+    fn words_at(self, width: usize, many: usize) -> Option<usize>
+        ensures { IfSome result (λ x. x + 2 ≤ many) }
+    {
+        let at = self
+            .start
+            .checked_add(self.place_of(width, self.i, self.k)?)?;
+        let x = at.checked_mul(2)?;
+        (x < many && many - x > 1).then_some(x)
+    }
 }
 
-// Where twiddle k of iteration i stands by the library in a stage of m iterations of radix r, and nowhere where the stage has none.
-fn standing(m: usize, r: usize, width: usize, i: usize, k: usize) -> usize {
-    if m > 4096 {
-        return NOWHERE;
-    }
-    if i >= m {
-        return NOWHERE;
-    }
-    if r > 8 {
-        return NOWHERE;
-    }
-    if k == 0 {
-        return NOWHERE;
-    }
-    if k >= r {
-        return NOWHERE;
-    }
-    if width == 0 {
-        return NOWHERE;
-    }
-    if width > 4 {
-        return NOWHERE;
-    }
-    place(m, r, width, i, k)
+// The twiddles of a plan, one after the other.
+#[derive(Drop)]
+struct Twiddles {
+    plan: Record,
+    next: Twiddle,
+    left: usize,
 }
 
-// 1 where the library packs a list otherwise than a layout says, by a checksum of where each twiddle stands, and 0 where it does so.
-pub fn layout_differs(line: [u8; 97]) -> u64
-    ensures { result ≤ 1 }
-{
+impl Twiddles {
+    fn of(plan: Record) -> Twiddles {
+        Twiddles {
+            plan,
+            next: Twiddle::first_of(plan, 1, 0),
+            left: MANY,
+        }
+    }
+}
+
+impl Iterator for Twiddles {
+    type Item = Twiddle;
+
+    ghost remaining = { λ s. at_most s.left };
+
+    fn next(&mut self) -> Option<Twiddle> {
+        let twiddle = self.next;
+        if self.left == 0 || twiddle.r == 0 {
+            return None;
+        }
+        self.left -= 1;
+        self.next = twiddle.next_of(self.plan);
+        Some(twiddle)
+    }
+}
+
+// Whether the library packs a list otherwise than a layout says, by a checksum of where each twiddle stands.
+pub fn layout_differs(line: [u8; 97]) -> bool {
     let question = asked(&line[0..16]);
     let plan = question.plan;
     let count = question.stages;
-    let width = number(&line[17..18], false);
-    let mut t = begun(plan, 1, 0);
+    let width = number(&line[17..18], Base::Decimal);
     let mut sum: usize = 0;
-    let mut passed: usize = 0;
-    while passed < count {
-        sum = mixed(sum, standing(t.m, t.r, width, t.i, t.k));
-        passed += 1;
-        t = after(plan, t, passed);
+    for t in Twiddles::of(plan) {
+        let place = width.and_then(|width| t.place_of(width, t.i, t.k));
+        sum = mixed(sum, place.unwrap_or(NOWHERE));
     }
-    if plan.n > 0 && number(&line[19..24], false) == count && number(&line[25..35], false) == sum {
-        0
-    } else {
-        1
-    }
+    plan.n == 0
+        || number(&line[19..24], Base::Decimal) != Some(count)
+        || number(&line[25..35], Base::Decimal) != Some(sum)
 }
 
 // The same by the lines that follow, each with the iteration and the number of the twiddle at the next place, and all read.
-pub fn places_differ<R: Read>(line: [u8; 97], from: &mut R) -> u64
-    ensures { result ≤ 1 }
-{
+pub fn places_differ<R: Read>(line: [u8; 97], from: &mut R) -> bool {
     let question = asked(&line[0..16]);
     let plan = question.plan;
     let count = question.stages;
-    let width = number(&line[17..18], false);
-    let mut t = begun(plan, 1, 0);
-    let mut are_same = plan.n > 0 && number(&line[19..24], false) == count;
-    let mut passed: usize = 0;
-    while passed < count {
-        if !follows(t, width, passed, from) {
+    let width = number(&line[17..18], Base::Decimal);
+    let mut are_same = plan.n > 0 && number(&line[19..24], Base::Decimal) == Some(count);
+    for t in Twiddles::of(plan) {
+        if named(t, width, from) != Some(t.at) {
             are_same = false;
         }
-        passed += 1;
-        t = after(plan, t, passed);
     }
-    if are_same { 0 } else { 1 }
+    !are_same
 }
 
-// Whether the next line names the twiddle of a stage that stands at the next place.
-fn follows<R: Read>(t: Twiddle, width: usize, passed: usize, from: &mut R) -> bool {
+// How many twiddles stand before the one of a stage that the next line names, packed for a width.
+fn named<R: Read>(t: Twiddle, width: Option<usize>, from: &mut R) -> Option<usize> {
     let mut line = [0u8; 7];
-    let got = read_full(from, &mut line);
-    let i = number(&line[0..4], false);
-    let k = number(&line[5..6], false);
-    let at = standing(t.m, t.r, width, i, k);
-    if at >= NOWHERE {
-        return false;
+    let read = read_line(from, &mut line);
+    let i = number(&line[0..4], Base::Decimal)?;
+    let k = number(&line[5..6], Base::Decimal)?;
+    if read != Line::Whole || line[4] != b' ' {
+        return None;
     }
-    if t.start > MANY {
-        return false;
-    }
-    got == 7 && line[4] == b' ' && line[6] == b'\n' && t.start + at == passed
+    t.start.checked_add(t.place_of(width?, i, k)?)
 }
 
 // Twiddles as packed for width 1, packed for a width; the words behind those of the stages stay where they are.
@@ -172,36 +175,10 @@ pub fn pack(plan: Record, width: usize, from: &[f32], to: &mut [f32])
         return;
     }
     paste(from, to, 0);
-    let mut t = begun(plan, 1, 0);
-    let mut passed: usize = 0;
-    while passed < MANY && t.r > 0 {
-        let a = standing(t.m, t.r, 1, t.i, t.k);
-        let b = standing(t.m, t.r, width, t.i, t.k);
-        move_one(t.start, a, b, from, to);
-        passed += 1;
-        t = after(plan, t, passed);
+    for t in Twiddles::of(plan) {
+        if let (Some(x), Some(y)) = (t.words_at(1, from.len()), t.words_at(width, to.len())) {
+            to[y] = from[x];
+            to[y + 1] = from[x + 1];
+        }
     }
-}
-
-// The words at one place of a stage, at another.
-fn move_one(start: usize, a: usize, b: usize, from: &[f32], to: &mut [f32]) {
-    if start > MANY {
-        return;
-    }
-    if a >= NOWHERE {
-        return;
-    }
-    if b >= NOWHERE {
-        return;
-    }
-    let x = 2 * (start + a);
-    let y = 2 * (start + b);
-    if x + 1 >= from.len() {
-        return;
-    }
-    if y + 1 >= to.len() {
-        return;
-    }
-    to[y] = from[x];
-    to[y + 1] = from[x + 1];
 }

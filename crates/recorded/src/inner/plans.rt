@@ -1,7 +1,7 @@
 // The plan of a record's list, and its half list.
 ghost use Rattle.std.specs.Prelude.{◌≤◌};
 
-use crate::inner::text::{lent, number};
+use crate::inner::text::{Base, lent, number};
 use halving::inner::halving::half_list;
 use plan::Record;
 use radices::Radices;
@@ -15,55 +15,41 @@ pub struct Question {
     pub ends: usize,
 }
 
+// What stands for the plan of a list that is refused.
+const NO_PLAN: Record = Record {
+    n: 0,
+    half: 0,
+    count: 0,
+    radices: [0; 13],
+};
+
 // What the list in a column asks.
 pub fn asked(column: &[u8]) -> Question
     ensures { (result.stages ≤ 20000) × (result.ends ≤ 20000) }
 {
     let list = lent(column);
-    let count = list.count;
-    let bytes = list.bytes;
-    let answer = plan::plan(&bytes[..count]);
-    let plan = answer.plan;
-    let stage = counts::stage_twiddles(plan);
-    let end = counts::end_twiddles(plan);
+    let plan = match plan::plan(list.items()) {
+        Ok(made) => made.plan,
+        Err(_) => NO_PLAN,
+    };
     Question {
         plan,
-        stages: few(stage.count),
-        ends: few(end.count),
+        stages: counts::stage_twiddles(plan).unwrap_or(0).min(20000),
+        ends: counts::end_twiddles(plan).unwrap_or(0).min(20000),
     }
 }
 
-// A count, and one that no plan has where it is larger.
-fn few(count: usize) -> usize
-    ensures { result ≤ 20000 }
-{
-    if count > 20000 {
-        return 20000;
-    }
-    count
-}
-
-// 1 where the half list of a planning record is not the library's, and 0 where it is.
-pub fn half_differs(line: [u8; 97]) -> u64
-    ensures { result ≤ 1 }
-{
+// Whether the half list of a planning record is not the library's.
+pub fn half_differs(line: [u8; 97]) -> bool {
     let list = lent(&line[0..16]);
-    let count = list.count;
-    let bytes = list.bytes;
-    let half = halved(&bytes[..count]);
+    let half = halved(list.items());
     let entries = half.entries;
-    if number(&line[67..69], false) == half.count && holds(&line[70..83], entries) {
-        0
-    } else {
-        1
-    }
+    number(&line[67..69], Base::Decimal) != Some(half.count) || !holds(&line[70..83], entries)
 }
 
 // The half list of a list, and none where it is refused.
 fn halved(list: &[u8]) -> Radices {
-    let answer = plan::plan(list);
-    let plan = answer.plan;
-    if plan.n == 0 || list.len() > 13 {
+    if plan::plan(list).is_err() || list.len() > 13 {
         return Radices {
             count: 0,
             entries: [0u8; 13],
@@ -74,24 +60,14 @@ fn halved(list: &[u8]) -> Radices {
 
 // Whether a column shows the entries of an array.
 fn holds(text: &[u8], entries: [u8; 13]) -> bool {
-    if text.len() != 13 {
-        return false;
-    }
-    let mut i = 0;
-    while i < 13 {
-        if text[i] != entry(entries[i]) {
-            return false;
-        }
-        i += 1;
-    }
-    true
+    text == entries.map(entry).as_slice()
 }
 
 // The character of an entry: a radix as its digit, and 0 as the place with no entry.
 fn entry(byte: u8) -> u8 {
     match byte {
         0 => b'.',
-        2..=8 => 48 + byte,
+        2..=8 => b'0' + byte,
         _ => b'?',
     }
 }

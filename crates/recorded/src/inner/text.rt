@@ -1,115 +1,106 @@
 // The lines of a record, and their columns: lists and numbers.
-ghost use Rattle.std.specs.Prelude.{◌≡◌, ◌≤◌, length, take};
+ghost use Rattle.std.specs.Prelude.{◌≡◌, ◌≤◌, ◌<◌, length, take, IfSome};
 
+use input_rows::inner::rows::{count, fill};
 use std::io::Read;
 
-// A lent list: how many bytes it has, and the bytes.
+// A lent list: its bytes, and how many of them it has. A fixed array, since a list has few bytes and this crate takes no heap.
 #[derive(Clone, Copy)]
 pub struct List {
     pub count: usize,
     pub bytes: [u8; 16],
+    ghost few: { count ≤ 16 },
 }
 
-// What stands for a column that holds no number: more than any that does.
-pub const NONE: usize = 100000000000000;
+impl List {
+    // The bytes of the list.
+    pub fn items(&self) -> &[u8]
+        ensures { result.now ≡ take self.now.count self.now.bytes }
+    {
+        &self.bytes[..self.count]
+    }
+}
 
-// Reads a line of so many bytes into the first of others, and answers how many it read: 0 at the file's end, and fewer than it has where
-// the file ends within it or it does not end there.
-pub fn read_line<R: Read>(from: &mut R, line: &mut [u8], size: usize) -> usize
-    ensures { result ≤ size }
+// How a line is read: whole, not at all since the input is at its end, or in part.
+#[derive(Clone, Copy, PartialEq, Eq)]
+pub enum Line {
+    Whole,
+    End,
+    Cut,
+}
+
+// Which digits a number has.
+#[derive(Clone, Copy, PartialEq, Eq)]
+pub enum Base {
+    Decimal,
+    Hexadecimal,
+}
+
+// Reads a line that is as long as the row, and ends there.
+pub fn read_line<R: Read>(from: &mut R, row: &mut [u8]) -> Line
+    ensures { length row.new ≡ length row.old }
 {
-    if size == 0 {
-        return 0;
+    match read_full(from, row) {
+        0 => Line::End,
+        got if got == row.len() && row[got - 1] == b'\n' => Line::Whole,
+        _ => Line::Cut,
     }
-    if size > line.len() {
-        return 0;
-    }
-    let got = read_full(from, &mut line[..size]);
-    if got < size {
-        return got;
-    }
-    if line[size - 1] != b'\n' {
-        return size - 1;
-    }
-    size
 }
 
 // Reads until a row is full, the input ends or a read fails, and answers how many bytes it put at the row's start.
 pub fn read_full<R: Read>(from: &mut R, row: &mut [u8]) -> usize
-    ensures { result ≤ length row.new }
+    ensures count { result ≤ length row.new }
+    ensures row { length row.new ≡ length row.old }
 {
-    let mut done: usize = 0;
-    while done < row.len() {
-        let Ok(more) = from.read(&mut row[done..]) else {
-            return done;
-        };
-        if more == 0 {
-            return done;
-        }
-        done += more;
-    }
-    done
+    count(fill(from, row))
 }
 
 // The list that a column holds, up to the first place with no entry.
 pub fn lent(text: &[u8]) -> List
     ensures { (result.count ≤ length result.bytes) × (result.count ≡ length (take result.count result.bytes)) }
 {
+    let used = text.iter().position(|c| *c == b'.').unwrap_or(text.len());
+    let count = used.min(16);
     let mut bytes = [0u8; 16];
-    let mut i = 0;
-    while i < 16 && i < text.len() && text[i] != b'.' {
-        bytes[i] = byte_of(text[i]);
-        i += 1;
+    for (byte, c) in bytes.iter_mut().zip(&text[..count]) {
+        *byte = byte_of(*c);
     }
-    List { count: i, bytes }
+    List { count, bytes }
 }
 
 // The byte that a character of a lent list stands for: a digit for its value, a to y for 10, 20 and so on to 250,
 // z for 255, and any other for itself.
 fn byte_of(c: u8) -> u8 {
     match c {
-        b'0'..=b'9' => c - 48,
-        b'a'..=b'y' => (c - 96) * 10,
+        b'0'..=b'9' => c - b'0',
+        b'a'..=b'y' => (c - b'a' + 1) * 10,
         b'z' => 255,
         _ => c,
     }
 }
 
-// The number that a column holds in decimal or in hexadecimal, and NONE where it holds none.
-pub fn number(text: &[u8], is_hexadecimal: bool) -> usize
-    ensures { result ≤ 100000000000000 }
+// The number that a column holds; of a larger one than columns hold the first digits are lost.
+pub fn number(text: &[u8], base: Base) -> Option<usize>
+    ensures { IfSome result (λ n. n ≤ 100000000000000) }
 {
     let mut read: usize = 0;
-    let mut i: usize = 0;
-    while i < text.len() {
-        let d = value(text[i], is_hexadecimal);
-        if d > 15 {
-            return NONE;
-        }
-        read = grown(read, d, is_hexadecimal);
-        i += 1;
+    for c in text {
+        let digit = value(*c, base)?;
+        read = match base {
+            Base::Decimal => read % 1000000000000 * 10 + digit,
+            Base::Hexadecimal => read % 1000000000000 * 16 + digit,
+        };
     }
-    read
+    Some(read)
 }
 
-// A number with one digit more; of a larger one than columns hold the first digits are lost.
-fn grown(read: usize, d: usize, is_hexadecimal: bool) -> usize
-    requires { d ≤ 16 }
-    ensures { result ≤ 100000000000000 }
-{
-    if is_hexadecimal {
-        return read % 1000000000000 * 16 + d;
-    }
-    read % 1000000000000 * 10 + d
-}
-
-// The value of a decimal or hexadecimal digit, and 16 for any other character.
-fn value(c: u8, is_hexadecimal: bool) -> usize
-    ensures { result ≤ 16 }
+// The value of a digit.
+fn value(c: u8, base: Base) -> Option<usize>
+    ensures { IfSome result (λ d. d < 16) }
 {
     match c {
-        b'0'..=b'9' => c as usize - 48,
-        b'a'..=b'f' => { if is_hexadecimal { c as usize - 87 } else { 16 } }
-        _ => 16,
+        b'0'..=b'9' => Some((c - b'0') as usize),
+        b'a'..=b'f' if base == Base::Hexadecimal => Some((c - b'a') as usize + 10),
+        _ => None,
     }
 }

@@ -1,7 +1,7 @@
 // Rows of words: read from lines of nine bytes, drawn from a seed as the oracle draws them, and summed.
 ghost use Rattle.std.specs.Prelude.{◌≡◌, ◌<◌, length};
 
-use crate::inner::text::{number, read_full};
+use crate::inner::text::{Base, number, read_full};
 use std::io::Read;
 
 // The modulus of checksums and draws, a prime below 2^32.
@@ -18,18 +18,24 @@ pub fn read<R: Read>(from: &mut R, words: &mut [f32]) -> bool
     ensures { length words.new ≡ length words.old }
 {
     let mut are_words = true;
-    let mut i: usize = 0;
-    while i < words.len() {
-        let mut line = [0u8; 9];
-        let got = read_full(from, &mut line);
-        let word = number(&line[0..8], true);
-        words[i] = float((word % 4294967296) as u32);
-        if got < 9 || word > 4294967295 || line[8] != b'\n' {
-            are_words = false;
+    for word in words.iter_mut() {
+        match read_word(from) {
+            Some(shown) => *word = float(shown),
+            None => are_words = false,
         }
-        i += 1;
     }
     are_words
+}
+
+// The word that the next line shows.
+fn read_word<R: Read>(from: &mut R) -> Option<u32> {
+    let mut line = [0u8; 9];
+    let got = read_full(from, &mut line);
+    let word = number(&line[0..8], Base::Hexadecimal)?;
+    if got < 9 || line[8] != b'\n' {
+        return None;
+    }
+    u32::try_from(word).ok()
 }
 
 // The float of a word, and 0 where it is a NaN's.
@@ -42,7 +48,7 @@ fn float(word: u32) -> f32 {
 
 // The bits of a float, and those of a NaN for every NaN.
 fn bits(x: f32) -> u32 {
-    if x != x {
+    if x.is_nan() {
         return 0x7fc00000;
     }
     f32::to_bits(x)
@@ -53,10 +59,8 @@ pub fn summed(words: &[f32]) -> usize
     ensures { result < 4294967291 }
 {
     let mut sum: usize = 0;
-    let mut i: usize = 0;
-    while i < words.len() {
-        sum = mixed(sum, bits(words[i]) as usize);
-        i += 1;
+    for x in words {
+        sum = mixed(sum, bits(*x) as usize);
     }
     sum
 }
@@ -73,11 +77,9 @@ pub fn fill(words: &mut [f32], kind: u8, seed: usize) -> usize
     ensures { result < 4294967291 }
 {
     let mut x = seed % MODULUS;
-    let mut i: usize = 0;
-    while i < words.len() {
-        x = x % MODULUS * FACTOR % MODULUS;
-        words[i] = float(word_of(kind, x));
-        i += 1;
+    for word in words.iter_mut() {
+        x = x * FACTOR % MODULUS;
+        *word = float(word_of(kind, x));
     }
     x
 }
@@ -98,51 +100,24 @@ fn word_of(kind: u8, x: usize) -> u32 {
 fn drawn(kind: u8, chosen: u32) -> u32
     ensures { result < 512 }
 {
-    match kind {
-        b'N' => FINE + 126 - chosen % 16,
-        b'E' => {
-            if chosen == 255 {
-                175
-            } else {
-                FINE + 174 - chosen % 128
-            }
-        }
-        b'L' => {
-            if chosen == 255 {
-                159
-            } else {
-                FINE + 158 - chosen % 128
-            }
-        }
-        b'B' => 175,
-        b'M' => 159,
-        b'Z' => {
-            if chosen < 128 {
-                0
-            } else {
-                FINE + 126 - chosen % 16
-            }
-        }
-        b'O' => 0,
-        b'W' => { if chosen % 4 == 0 { 0 } else { 126 + chosen % 4 } }
-        b'S' => {
-            if chosen < 192 {
-                FINE
-            } else {
-                FINE + 1 + chosen % 9
-            }
-        }
-        b'T' => {
-            if chosen == 255 {
-                127
-            } else {
-                if chosen == 254 {
-                    0
-                } else {
-                    FINE + 126 - chosen % 16
-                }
-            }
-        }
+    match (kind, chosen) {
+        (b'N', _) => FINE + 126 - chosen % 16,
+        (b'E', 255) => 175,
+        (b'E', _) => FINE + 174 - chosen % 128,
+        (b'L', 255) => 159,
+        (b'L', _) => FINE + 158 - chosen % 128,
+        (b'B', _) => 175,
+        (b'M', _) => 159,
+        (b'Z', 0..=127) => 0,
+        (b'Z', _) => FINE + 126 - chosen % 16,
+        (b'O', _) => 0,
+        (b'W', _) if chosen % 4 == 0 => 0,
+        (b'W', _) => 126 + chosen % 4,
+        (b'S', 0..=191) => FINE,
+        (b'S', _) => FINE + 1 + chosen % 9,
+        (b'T', 255) => 127,
+        (b'T', 254) => 0,
+        (b'T', _) => FINE + 126 - chosen % 16,
         _ => 255,
     }
 }

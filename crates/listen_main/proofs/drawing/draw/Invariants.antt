@@ -1,4 +1,4 @@
--- `draw` is safe and ends: the measure is how many bins are left. Assumes nothing.
+-- `draw` ends: the measure is how many bins are left.
 use Rattle.sequences.proofs.Basics.{◌≤◌, ◌-◌, length}
 use Rattle.listen_main.proofs.drawing.draw.Given as goal
 

@@ -1,35 +1,17 @@
--- `listen_words::inner::words::number_of` meets its contract. Assumes nothing.
-use Rattle.sequences.proofs.Basics.{sym, ◌∙◌, add-one, arith, rules}
-use Rattle.listen_words.specs.Words.{number_of}
-use Rattle.listen_words.proofs.Choosing.{choosing}
-use Rattle.listen_words.proofs.Digits.{number_digits, digits_all, digits_none, digits_next, below_nine}
+-- `number_of` meets its contract: each turn reads the digit that stands next.
+use Rattle.std.proofs.Common.{sym, ◌∙◌, arith, rules, add-one, get_or}
+use Rattle.listen_words.proofs.Digits.{digits_all, digits_none, digits_next, digit_few}
 use Rattle.listen_words.proofs.inner.words.number_of.Goals as goal
 
-pub returns-then-n-eq0 : goal.returns-then-n-eq0
-unfolding number_of
-returns-then-n-eq0 c = search choosing depth 20
+pub returns-then-not-is_ascii_digit : goal.returns-then-not-is_ascii_digit
+returns-then-not-is_ascii_digit c = sym (c.loop-b.invariant.2 ∙ digits_none _ _ _ c.loop-b-test.true (search rules))
 
-pub returns-then-n-gt9 : goal.returns-then-n-gt9
-unfolding number_of
-returns-then-n-gt9 c = search choosing depth 20
-
-pub loop-i-init : goal.loop-i-init
-loop-i-init c = (search rules, search rules, number_digits _ c.if-n-eq0.false c.if-n-gt9.false)
-
-pub returns-then-b-lt48 : goal.returns-then-b-lt48
-returns-then-b-lt48 c = c.none-then-b-lt48.ensures ∙ sym (c.loop-i.invariant.2 ∙ digits_none _ _ c.loop-i.i c.loop-i-test.true (search choosing))
-
-pub returns-then-b-gt57 : goal.returns-then-b-gt57
-returns-then-b-gt57 c = c.none-then-b-gt57.ensures ∙ sym (c.loop-i.invariant.2 ∙ digits_none _ _ c.loop-i.i c.loop-i-test.true (search choosing))
-
-pub overflow_mul-value : goal.overflow_mul-value
-overflow_mul-value c = let l = c.loop-i in omega (arith, below_nine l.value l.i (search rules) l.invariant.1)
-
-pub overflow_add-value : goal.overflow_add-value
-overflow_add-value c = let l = c.loop-i in omega (arith, below_nine l.value l.i (search rules) l.invariant.1)
-
-pub loop-i-preserved : goal.loop-i-preserved
-loop-i-preserved c = let l = c.loop-i in (search rules, rw add-one (omega arith), l.invariant.2 ∙ digits_next _ _ l.i c.loop-i-test.true (search choosing))
+pub loop-b-preserved : goal.loop-b-preserved
+loop-b-preserved c = (
+  search rules,
+  rw add-one (let e = digit_few (get_or c.args.word.now c.loop-b.b-index 0) (sym c.is_ascii_digit.ensures.value ∙ c.if-not-is_ascii_digit.false) in omega arith),
+  c.loop-b.invariant.2 ∙ digits_next _ _ _ c.loop-b-test.true (search rules),
+)
 
 pub returns : goal.returns
-returns c = c.number.ensures ∙ sym (c.loop-i.invariant.2 ∙ digits_all _ _ c.loop-i.i c.loop-i-test.false)
+returns c = sym (c.loop-b.invariant.2 ∙ digits_all _ _ _ c.loop-b-test.false)

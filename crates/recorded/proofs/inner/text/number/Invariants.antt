@@ -1,9 +1,6 @@
--- `recorded::inner::text::number` ends: the measure is how many characters are left.
-use Rattle.std.proofs.Common.{◌-◌, ◌≤◌, length}
+-- `number`: the bound that each turn keeps.
+use Rattle.std.proofs.Common.{◌≤◌}
 use Rattle.recorded.proofs.inner.text.number.Given as goal
 
-abbrev pub invariant-loop-i : goal.invariant-loop-i
-invariant-loop-i l = (l.i ≤ length l.text) × (l.read ≤ 100000000000000)
-
-abbrev pub decreases-loop-i : goal.decreases-loop-i
-decreases-loop-i l = length l.text - l.i
+abbrev pub invariant-loop-c : goal.invariant-loop-c
+invariant-loop-c l = l.read ≤ 100000000000000

@@ -1,9 +1,6 @@
--- `recorded::inner::words::fill` ends: the measure is how many words are left.
-use Rattle.std.proofs.Common.{◌-◌, ◌≤◌, ◌<◌, length}
+-- `fill`: the bound that each turn keeps.
+use Rattle.std.proofs.Common.{◌<◌}
 use Rattle.recorded.proofs.inner.words.fill.Given as goal
 
-abbrev pub invariant-loop-i : goal.invariant-loop-i
-invariant-loop-i l = (l.i ≤ length l.words) × (l.x < 4294967291)
-
-abbrev pub decreases-loop-i : goal.decreases-loop-i
-decreases-loop-i l = length l.words - l.i
+abbrev pub invariant-loop-word : goal.invariant-loop-word
+invariant-loop-word l = l.x < 4294967291

@@ -1,9 +1,6 @@
--- `recorded::inner::words::summed` ends: the measure is how many words are left.
-use Rattle.std.proofs.Common.{◌-◌, ◌≤◌, ◌<◌, length}
+-- `summed`: the bound that each turn keeps.
+use Rattle.std.proofs.Common.{◌<◌}
 use Rattle.recorded.proofs.inner.words.summed.Given as goal
 
-abbrev pub invariant-loop-i : goal.invariant-loop-i
-invariant-loop-i l = (l.i ≤ length l.words) × (l.sum < 4294967291)
-
-abbrev pub decreases-loop-i : goal.decreases-loop-i
-decreases-loop-i l = length l.words - l.i
+abbrev pub invariant-loop-x : goal.invariant-loop-x
+invariant-loop-x l = l.sum < 4294967291

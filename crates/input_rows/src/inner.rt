@@ -1,0 +1,2 @@
+// What other crates call under a proof.
+pub mod rows;

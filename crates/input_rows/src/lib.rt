@@ -1,0 +1,4 @@
+// Rows of bytes read from an input.
+#![tactic(auto)]
+
+pub mod inner;
