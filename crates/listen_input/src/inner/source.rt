@@ -174,8 +174,10 @@ pub fn found(source: &mut Source) -> Result<Start, Fault> {
         Some(size) => size,
         None => length_of(&mark, came),
     };
-    begin(&mark, total).map_err(|refusal| refused(refusal, 0, total))?;
-    walked(source, total)
+    match begin(&mark, total) {
+        Ok(_) => walked(source, total),
+        Err(refusal) => Err(refused(refusal, 0, total)),
+    }
 }
 
 // How long a stream is to be that began with so many bytes: what its RIFF size says, or what came where that is not 12 bytes.

@@ -21,7 +21,5 @@ pub fn tell<D: Display + Drop>(rt: &HostRuntime, what: D) {
 
 // Prints a line.
 pub fn print_line(rt: &HostRuntime, line: Text) -> Result<(), Unwritten> {
-    let bytes = line.bytes;
-    let used = bytes.get(..line.len).ok_or(Unwritten)?;
-    rt.write_all(used).map_err(|_| Unwritten)
+    rt.write_all(line.as_bytes()).map_err(|_| Unwritten)
 }

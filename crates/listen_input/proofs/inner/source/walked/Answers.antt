@@ -3,8 +3,8 @@ use Rattle.std.proofs.Common.{arith}
 use Rattle.listen_input.proofs.Walking.{goes_on}
 use Rattle.listen_input.proofs.inner.source.walked.Goals as goal
 
-pub loop-rate-smaller : goal.loop-rate-smaller
-loop-rate-smaller c = let a = c.in-Ok-Chunk in omega (arith, goes_on _ _ _ _ a.next a.next_rate _ c.step.ensures a.is a.field-0-is)
+pub loop-read-smaller : goal.loop-read-smaller
+loop-read-smaller c = let a = c.in-Ok-Chunk in omega (arith, goes_on _ _ _ _ a.next a.next_rate _ c.step.ensures a.is a.field-0-is)
 
-pub loop-rate-preserved : goal.loop-rate-preserved
-loop-rate-preserved c = let a = c.in-Ok-Chunk in (goes_on _ _ _ _ a.next a.next_rate _ c.step.ensures a.is a.field-0-is).1
+pub loop-read-preserved : goal.loop-read-preserved
+loop-read-preserved c = let a = c.in-Ok-Chunk in (goes_on _ _ _ _ a.next a.next_rate _ c.step.ensures a.is a.field-0-is).1

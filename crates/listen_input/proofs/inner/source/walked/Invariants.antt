@@ -2,8 +2,8 @@
 use Rattle.std.proofs.Common.{◌≤◌, ◌-◌}
 use Rattle.listen_input.proofs.inner.source.walked.Given as goal
 
-abbrev pub invariant-loop-rate : goal.invariant-loop-rate
-invariant-loop-rate l = l.at ≤ l.total
+abbrev pub invariant-loop-read : goal.invariant-loop-read
+invariant-loop-read l = l.at ≤ l.total
 
-abbrev pub decreases-loop-rate : goal.decreases-loop-rate
-decreases-loop-rate l = l.total - l.at
+abbrev pub decreases-loop-read : goal.decreases-loop-read
+decreases-loop-read l = l.total - l.at
