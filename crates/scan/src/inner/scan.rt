@@ -59,7 +59,7 @@ fn passed_to_end(xs: &[f32], b: f32) -> usize
 }
 
 // The index of the first number that is not within b, a power of two, or the length. Up to the ceiling, the largest bound in use, the squares tell.
-// The loop yields its place by break, a form that the project keeps one of.
+// The loop yields its place, or the length, by break: a form that the project keeps one of.
 pub fn first_unfit(xs: &[f32], b: f32) -> usize
     ensures { (k : ℕ) → b ≡ bound k → result ≡ first_unfit k xs.now }
 {
