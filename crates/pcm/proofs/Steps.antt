@@ -195,4 +195,5 @@ read_is v l = go (ltb v 32768) refl
     go false e =
         let k : suc (65536 - suc v) ≡ 65536 - v = omega (arith, l) in
         ap (λ (n : ℕ). div binary32 (round binary32 true n 1) scale) k
-        ∙ quotient (round binary32 true (65536 - v) 1) true (65536 - v) (omega (arith, ltb-false v 32768 e)) (round_whole binary32 true (65536 - v) (omega (arith, l)))
+        ∙ quotient (round binary32 true (65536 - v) 1) true (65536 - v) (omega (arith, ltb-false v 32768 e))
+        (round_whole binary32 true (65536 - v) (omega (arith, l)))

@@ -81,7 +81,8 @@ unfolding padded
 put_padded xs ys h =
     let zeros : List ℕ = replicate (13 - length xs) 0 in
     ap₂ (λ (front rest : List ℕ). front ++ (ys ++ drop (length ys) rest)) (take-append_seam xs zeros) (drop_at xs zeros (length xs) refl)
-    ∙ ap (λ (rest : List ℕ). xs ++ (ys ++ rest)) (drop-replicate (length ys) (13 - length xs) 0) ∙ sym (append_assoc xs ys (replicate (13 - length xs - length ys) 0))
+    ∙ ap (λ (rest : List ℕ). xs ++ (ys ++ rest)) (drop-replicate (length ys) (13 - length xs) 0)
+    ∙ sym (append_assoc xs ys (replicate (13 - length xs - length ys) 0))
     ∙ ap (λ (m : ℕ). xs ++ ys ++ replicate m 0) {x = 13 - length xs - length ys} {y = 13 - length (xs ++ ys)} (omega (arith, length-append xs ys))
 
 module _ (xs ys : List ℕ) (r : Radices) (e : r ≡ listed xs) where
