@@ -275,7 +275,8 @@ module _ (start : Tally) (array : List ℕ) (count : ℕ) (t : Tally) (s : SoFar
         ap (λ (n : ℕ). take n (set array count v)) (add-one count) ∙ take-suc-set array count v h in
         record {
           same = sym (merged_step t r e) ∙ s.same;
-          done = s.done ∙ ap (λ (ls : List ℕ). take count array ++ ls) (letters_step t r e) ∙ sym (append_assoc (take count array) (v ∷ []) (letters (merge r t)))
+          done = s.done ∙ ap (λ (ls : List ℕ). take count array ++ ls) (letters_step t r e)
+              ∙ sym (append_assoc (take count array) (v ∷ []) (letters (merge r t)))
               ∙ ap (λ (ls : List ℕ). ls ++ letters (merge r t)) (sym taken);
           held = ap (λ (ls : List ℕ). set ls count v) s.held ∙ push_padded (take count array) count v (length-take-le count array (omega arith)) (omega arith)
               ∙ ap padded (sym taken);

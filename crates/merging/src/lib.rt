@@ -3,7 +3,7 @@
 
 pub mod inner;
 
-// The merges that led to a plan, by their letters, unused entries 0.
+// The merges that led to a plan, by their letters, unused entries 0. No heap, so they stand in an array with their count.
 #[repr(C)]
 #[derive(Clone, Copy)]
 pub struct Merges {

@@ -3,8 +3,11 @@ use Rattle.sequences.proofs.Basics.{◌≡◌, refl, sym, ap, ◌∙◌, subst, 
 use Rattle.sequences.proofs.Basics.{mul_assoc, mul_right_comm, mul_comm, one-mul, eq_of_mul-eq-mul_right, mul-lt-mul_of_pos_right, mul-le-mul_right}
 use Rattle.sequences.proofs.Basics.{lt_of_le_of_lt, lt_of_lt_of_le, le_trans, le_of_eq, le_of_lt, lt_of_not-le, not-le_of_lt, le-div_iff_mul-le}
 use Rattle.sequences.proofs.Basics.{div-lt_iff_lt-mul, zero-mul, add_comm, zero-lt-suc, arith, dec_le, dite, Bool, true, false, cond, ◌&&◌}
-use Rattle.sequences.proofs.Basics.{T, ltb, leb, eqb, ltb→lt, leb→le, lt-ltb, le-ltb, lit<, pow-add, pow_pos, pow_mono, pow-lt}
+use Rattle.sequences.proofs.Basics.{T, ltb, leb, eqb, ltb→lt, leb→le, lt-ltb, lit<, pow-add, pow_pos, pow_mono, pow-lt}
 use lib.IntN.{ℤ, pos, negsuc}
+use mir.Val.{to_z}
+use Rattle.sequences.proofs.Basics.{ltb-false}
+use mir.Syntax.{w16}
 use lib.Ieee.{Float, nan, inf, fin, binary32, up, down, size, odd, units, round, sum, add, sub, mul, div, neg, le, fits, of_int}
 use lib.Ieee.Digits.{size-lt, size-le}
 use lib.Ieee.Fits.{down_pos, and_l, and_r, core, round_is, nearest-le}
@@ -182,23 +185,15 @@ rest_value x y n k l m v w =
 
 -- ---- what the code reads
 
-pub read_is : (v : ℕ) → v < 65536 → div binary32 (sub binary32 (of_int binary32 (pos ((v + 32768) % 65536))) scale) scale ≡ sample_of v
+pub read_is : (v : ℕ) → v < 65536 → div binary32 (of_int binary32 (to_z w16 v)) scale ≡ sample_of v
 unfolding of_int sample_of
-read_is v l =
-    let u = (v + 32768) % 65536 in let x = of_int binary32 (pos u) in
-    quotient (sub binary32 x scale) (ltb u 32768) (rest 32768 u) (small u (ltb u 32768) (omega arith))
-    (rest_value x scale u 32768 (omega arith) (omega arith) (round_whole binary32 false u (omega arith)) (refl, refl))
-    ∙ dite (dec_le 32768 v) (λ (h : 32768 ≤ v). high h) (λ (h : 32768 ≤ v → ⊥). low (lt_of_not-le h))
+read_is v l = go (ltb v 32768) refl
   where
-    small : (u : ℕ) (b : Bool) → u < 65536 → apart 32768 b u < 65536
-    small u true h = omega arith
-    small u false h = omega arith
-
-    u : ℕ
-    u = (v + 32768) % 65536
-
-    high : 32768 ≤ v → over (ltb u 32768) (rest 32768 u) ≡ cond (ltb v 32768) (over false v) (over true (65536 - v))
-    high h = let e : 32768 - u ≡ 65536 - v = omega (arith, h, l) in rw (lt-ltb u 32768 (omega (arith, h, l)), le-ltb v 32768 h) (ap (over true) e)
-
-    low : v < 32768 → over (ltb u 32768) (rest 32768 u) ≡ cond (ltb v 32768) (over false v) (over true (65536 - v))
-    low h = let e : u - 32768 ≡ v = omega (arith, h) in rw (le-ltb u 32768 (omega (arith, h)), lt-ltb v 32768 h) (ap (over false) e)
+    go : (t : Bool) → ltb v 32768 ≡ t
+        → div binary32 (of_int binary32 (cond t (pos v) (negsuc (65536 - suc v)))) scale ≡ cond t (over false v) (over true (65536 - v))
+    go true e = quotient (round binary32 false v 1) false v l (round_whole binary32 false v (omega (arith, l)))
+    go false e =
+        let k : suc (65536 - suc v) ≡ 65536 - v = omega (arith, l) in
+        ap (λ (n : ℕ). div binary32 (round binary32 true n 1) scale) k
+        ∙ quotient (round binary32 true (65536 - v) 1) true (65536 - v) (omega (arith, ltb-false v 32768 e))
+        (round_whole binary32 true (65536 - v) (omega (arith, l)))

@@ -5,6 +5,7 @@ use Rattle.sequences.proofs.Basics.{length-replicate, drop-cons, take-suc, take-
 use Rattle.sequences.proofs.Basics.{dite, dec_le, lt_of_not-le, ap₂, drop_at, cond, eqb, set_at, lt-ltb, le-ltb}
 use borrow.Rule.Slice.PartMut.{put_mid}
 use Rattle.std.specs.List as std
+use Rattle.std.proofs.lemmas.List.{drop-replicate}
 use Rattle.std.proofs.lemmas.List.Recursion.{is_count_by}
 use Rattle.radices.specs.declared.Radices.{Radices}
 use Rattle.radices.specs.Lists.{product, first_over, largest, count_of, padded, listed}
@@ -40,11 +41,6 @@ pub within_next : (xs : List ℕ) (p i : ℕ) → i < length xs → length xs �
     → p * get_or xs i 0 ≤ largest
 within_next xs p i h w e = dite (dec_le (p * get_or xs i 0) largest) (λ (l : p * get_or xs i 0 ≤ largest). l)
     (λ (n : p * get_or xs i 0 ≤ largest → ⊥). absurd (omega (arith, over_here xs p i h (lt_of_not-le n) e)))
-
-drop_replicate : (n k a : ℕ) → drop n (replicate k a) ≡ replicate (k - n) a
-drop_replicate zero k a = ap (λ (m : ℕ). replicate m a) {x = k} {y = k - 0} (omega arith)
-drop_replicate (suc n) zero a = ap (λ (m : ℕ). replicate m a) {x = 0} {y = 0 - suc n} (omega arith)
-drop_replicate (suc n) (suc k) a = drop_replicate n k a ∙ ap (λ (m : ℕ). replicate m a) {x = k - n} {y = suc k - suc n} (omega arith)
 
 pub length_padded : (xs : List ℕ) → length xs ≤ 13 → length (padded xs) ≡ 13
 unfolding padded
@@ -85,7 +81,8 @@ unfolding padded
 put_padded xs ys h =
     let zeros : List ℕ = replicate (13 - length xs) 0 in
     ap₂ (λ (front rest : List ℕ). front ++ (ys ++ drop (length ys) rest)) (take-append_seam xs zeros) (drop_at xs zeros (length xs) refl)
-    ∙ ap (λ (rest : List ℕ). xs ++ (ys ++ rest)) (drop_replicate (length ys) (13 - length xs) 0) ∙ sym (append_assoc xs ys (replicate (13 - length xs - length ys) 0))
+    ∙ ap (λ (rest : List ℕ). xs ++ (ys ++ rest)) (drop-replicate (length ys) (13 - length xs) 0)
+    ∙ sym (append_assoc xs ys (replicate (13 - length xs - length ys) 0))
     ∙ ap (λ (m : ℕ). xs ++ ys ++ replicate m 0) {x = 13 - length xs - length ys} {y = 13 - length (xs ++ ys)} (omega (arith, length-append xs ys))
 
 module _ (xs ys : List ℕ) (r : Radices) (e : r ≡ listed xs) where

@@ -3,7 +3,7 @@
 
 pub mod inner;
 
-// A list of radices, unused entries 0.
+// A list of radices, unused entries 0. It crosses to C: an array with its count.
 #[repr(C)]
 #[derive(Clone, Copy)]
 pub struct Radices {

@@ -1,5 +1,5 @@
 -- Laws of a text that grows at its end. Assumes nothing.
-use Rattle.sequences.proofs.Basics.{◌≡◌, refl, sym, ap, ◌∙◌, ℕ, ◌+◌, ◌-◌, ◌≤◌, ◌<◌, add-one, arith, List, [], ◌∷◌, ◌++◌, map, append_assoc}
+use Rattle.sequences.proofs.Basics.{◌≡◌, refl, sym, ap, ◌∙◌, ℕ, ◌+◌, ◌≤◌, ◌<◌, add-one, arith, List, [], ◌∷◌, ◌++◌, map, append_assoc}
 use Rattle.sequences.proofs.Basics.{map-append, length, get_or, take, take-suc}
 use Rattle.text.specs.Lines.{decimal, spaced}
 use Rattle.text.specs.Growing.{Starts, Adds, Holds}

@@ -17,6 +17,10 @@ laid xs ys h =
     ∙ sym (append_assoc xs ys (replicate (256 - length xs - length ys) 0))
     ∙ ap (λ (m : ℕ). (xs ++ ys) ++ replicate m 0) {x = 256 - length xs - length ys} {y = 256 - (length xs + length ys)} (omega arith)
 
+-- there is room for what a list of at most 256 with the bytes behind it holds
+pub room_for : (t : Inside) (i : IsText t) (s now : List ℕ) → used t ≡ now → length now + length s ≤ 256 → t.len + length s ≤ 256
+room_for t i s now e h = omega (arith, h, ap length e, length-take-le t.len t.bytes (omega (arith, i.room, i.long)))
+
 module _ (t : Inside) (i : IsText t) (s : List ℕ) (fits : t.len + length s ≤ 256) where
   long : length (used t) ≡ t.len
   long = length-take-le t.len t.bytes (omega (arith, i.room, i.long))

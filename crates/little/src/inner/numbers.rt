@@ -1,4 +1,4 @@
-// Numbers of two and of four bytes, the lowest first.
+// Numbers of two and of four bytes, the lowest first. No other sizes are in use, and one function of any size would need a loop and its proof.
 ghost use Rattle.std.specs.Prelude.{◌+◌, ◌≤◌, length};
 ghost use Rattle.little.specs.Numbers.{number_at, Reads};
 

@@ -114,7 +114,7 @@ impl Tally {
         left
     }
 
-    // The first rule that applies, again and again until none does.
+    // The first rule that applies, again and again until none does. The loop is left by its label, a form that the project keeps one of.
     pub fn merge_all(self) -> Merged
         requires { total self ≤ 13 }
         ensures { result ≡ merge_all self }

@@ -12,4 +12,5 @@ pub returns : goal.returns
 unfolding first_unfit
 returns c = let p : Float → Bool = λ x. not (fits x) in
     found_position p c.args.xs.now c.position.result
-    (position_from_yields_List p _ _ c.position.result c.position.ensures.ran (YieldsList-from_slice c.args.xs.now c.iter.ensures.rest) (λ x b q k. search (rules, tests)))
+    (position_from_yields_List p _ _ c.position.result c.position.ensures.ran (YieldsList-from_slice c.args.xs.now c.iter.ensures.rest)
+    (λ x b q k. search (rules, tests)))

@@ -7,23 +7,6 @@ use Rattle.little.proofs.Numbers.{number_two}
 use Rattle.pcm.specs.Samples.{sample_of, samples_at}
 use Rattle.pcm.proofs.inner.samples.read_samples.Goals as goal
 
-pub overflow_cast-bytes : goal.overflow_cast-bytes
-overflow_cast-bytes c = let a = c.args in omega (arith, c.type_inv.bytes (a.from + 2 * c.loop-i.i))
-
-pub overflow_cast-bytes-in-loop-i : goal.overflow_cast-bytes-in-loop-i
-overflow_cast-bytes-in-loop-i c = let a = c.args in omega (arith, c.type_inv.bytes (a.from + 2 * c.loop-i.i + 1))
-
-pub overflow_mul-bytes : goal.overflow_mul-bytes
-overflow_mul-bytes c = let a = c.args in omega (arith, c.type_inv.bytes (a.from + 2 * c.loop-i.i + 1))
-
-pub overflow_add-bytes : goal.overflow_add-bytes
-overflow_add-bytes c = let at = c.args.from + 2 * c.loop-i.i in
-    omega (arith, c.type_inv.bytes at, c.type_inv.bytes (at + 1))
-
-pub sample-requires : goal.sample-requires
-sample-requires c = let at = c.args.from + 2 * c.loop-i.i in
-    omega (arith, c.type_inv.bytes at, c.type_inv.bytes (at + 1))
-
 pub loop-i-preserved : goal.loop-i-preserved
 loop-i-preserved c = let l = c.loop-i in let a = c.args in
     set_more (λ (k : ℕ). sample_of (number_at 2 a.bytes.now (a.from + 2 * k))) l.output l.i _ nan (search rules)

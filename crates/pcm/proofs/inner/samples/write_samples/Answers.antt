@@ -1,5 +1,5 @@
 -- `pcm::inner::samples::write_samples` meets its contract. Assumes nothing.
-use Rattle.sequences.proofs.Basics.{arith, length-set, get_or, paste-zero, rules}
+use Rattle.sequences.proofs.Basics.{arith, length-set, get_or, paste-zero}
 use lib.Ieee.{nan}
 use Rattle.pcm.specs.Samples.{sample_bytes}
 use Rattle.pcm.proofs.Bytes.{all_fit, bytes_next, bytes_all}

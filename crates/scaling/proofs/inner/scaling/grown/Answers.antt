@@ -11,10 +11,12 @@ pub push-requires : goal.push-requires
 push-requires c = omega (arith, c.of-all.ensures.count, c.push_times.ensures.count, grown_room c.args.list.now c.args.g c.requires (λ e. omega arith))
 
 pub push-requires-in_default : goal.push-requires-in_default
-push-requires-in_default c = omega (arith, c.of-all.ensures.count, c.push_times.ensures.count, grown_room c.args.list.now c.args.g c.requires (λ e. omega arith))
+push-requires-in_default c =
+    omega (arith, c.of-all.ensures.count, c.push_times.ensures.count, grown_room c.args.list.now c.args.g c.requires (λ e. omega arith))
 
 pub returns-in-0 : goal.returns-in-0
-returns-in-0 c = c.push_times.ensures.list _ c.of-all.ensures.list ∙ ap (λ (more : List ℕ). listed (c.args.list.now ++ more)) (sym (gained_none c.args.g c.in-0.is))
+returns-in-0 c = c.push_times.ensures.list _ c.of-all.ensures.list
+    ∙ ap (λ (more : List ℕ). listed (c.args.list.now ++ more)) (sym (gained_none c.args.g c.in-0.is))
 
 pub returns-in-1 : goal.returns-in-1
 returns-in-1 c = let xs = c.args.list.now in let eights : List ℕ = replicate (c.args.g / 3) 8 in

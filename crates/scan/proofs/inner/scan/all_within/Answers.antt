@@ -1,5 +1,5 @@
 -- `scan::inner::scan::all_within` meets its contract. Assumes nothing.
-use Rattle.sequences.proofs.Basics.{◌≡◌, sym, subst, ◌∙◌, ◌+◌, arith, false≢true, rules}
+use Rattle.sequences.proofs.Basics.{◌≡◌, sym, subst, ◌∙◌, ◌+◌, arith, false≢true}
 use Rattle.scan.specs.Scan.{AllWithin}
 use Rattle.scan.proofs.Scan.{within_next}
 use Rattle.scan.proofs.inner.scan.all_within.Goals as goal

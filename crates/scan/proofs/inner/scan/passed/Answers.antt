@@ -10,7 +10,8 @@ loop-block-init c = λ q. sym (zero-add _)
 pub loop-block-preserved : goal.loop-block-preserved
 loop-block-preserved c = let l = c.loop-block in let a = c.args in
     let next : 64 * l.block + 64 ≡ 64 * (l.block + 1) = omega arith in
-    λ q. subst (Passed a.b a.xs.now) next (pass_all a.b a.xs.now (64 * l.block) 64 (omega arith) (c.all_within.ensures c.if-not-all_within.false q) (l.invariant q))
+    λ q. subst (Passed a.b a.xs.now) next
+    (pass_all a.b a.xs.now (64 * l.block) 64 (omega arith) (c.all_within.ensures c.if-not-all_within.false q) (l.invariant q))
 
 pub returns : goal.returns
 returns c = let l = c.loop-block in let a = c.args in
