@@ -4,7 +4,8 @@ ghost use Rattle.house.specs.Entries.{entry_of};
 
 use crate::inner::house::{COSINES, SINES};
 
-// A quarter number, and the cosine and sine of the rest times 2^60, unrounded.
+// A quarter number, and the cosine and sine of the rest times 2^60, unrounded. The quarter is the quotient of an index, and what is defined by it
+// counts: an enum would be made of it here and taken apart at its one use.
 #[derive(Clone, Copy)]
 pub struct Entry {
     pub quarter: usize,

