@@ -29,7 +29,8 @@ impl Outputs {
     }
 }
 
-// Every second of the r outputs of the cells c to lane j, each stored when it is made.
+// Every second of the r outputs of the cells c to lane j, each stored when it is made. By while: step_by would want a measure and no less of an
+// invariant.
 fn every_second(c: [Complex; 8], to: &mut Outputs, j: usize, r: usize, from: usize)
     requires { (is_radix r ≡ true) × (2 ≤ r) × (r ≤ 8) × (j < 16) × (from < 2) }
     ensures { Taken (Every from r) (kernel_of r (λ q. get_or c q blank)) j to.old.re to.old.im to.new.re to.new.im }
@@ -86,6 +87,7 @@ pub fn lanes<const N: usize>(
     requires { Sized m r (length src.now) × (i + len ≤ m) × (len ≤ N) × (N ≤ 16) × (2 * (rows_lent N len * (r - 1)) ≤ length tw.now) × (3 ≤ r) }
     ensures { Pairs low.new.re low.new.im high.new.re high.new.im × ((lent : ℕ → ℕ → Complex) → Lent N i len r lent tw.now → Paired i len r (output_of false m r src.now lent) low.new.re low.new.im high.new.re high.new.im) }
 {
+    // read and save are two calls in each arm: as one helper they are not inlined, and a call at 1,024 takes 201,499 instructions for 56,272
     for j in 0..len {
         let k = i + j;
         match r {

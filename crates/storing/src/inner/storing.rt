@@ -165,6 +165,7 @@ pub fn store<'a, const N: usize>(
     requires { Stored i m len s r (length dst.old) × (len ≤ N) × Evenly even len s × Placed even i s r start.block start.col }
     ensures { Placed even (i + len) s r result.block result.col × ((v : ℕ → ℕ → Complex) → Paired i len r v low.now.re low.now.im high.now.re high.now.im → Done s r v dst.old i → Done s r v dst.new (i + len)) }
 {
+    // by while: how many are stored at once is found in each step
     let mut next = Next { at: start, j: 0 };
     while next.j < len {
         next = step(low, high, dst, next.at, i, next.j, m, len, s, r, even);
