@@ -1,11 +1,11 @@
 -- A lane with its radix ρ written out does what a stage of radix r does, where r is ρ.
 -- Assumes nothing.
-use Rattle.sequences.proofs.Basics.{◌≡◌, ℕ, ◌+◌, ◌-◌, ◌*◌, ◌≤◌, ◌<◌, mul-le-mul_right, suc-mul, arith, false, List, ℕ_discrete, eq-eqb, ne_eqb, get_or}
+use Rattle.sequences.proofs.Basics.{◌≡◌, ap, ◌∙◌, length, ℕ, ◌+◌, ◌-◌, ◌*◌, ◌≤◌, ◌<◌, mul-le-mul_right, suc-mul, arith, false, List, ℕ_discrete, eq-eqb, ne_eqb, get_or}
 use lib.Ieee.{Float}
 use Rattle.floats.specs.declared.complex.Complex.{Complex}
 use Rattle.floats.specs.Complexes.{blank, cell}
 use Rattle.kernel.specs.Parts.{kernel_of, read_of, output_of, Sized}
-use Rattle.lanes.specs.Parts.{slot, rows_lent, Lent, Held, Saved, Paired}
+use Rattle.lanes.specs.Parts.{slot, rows_lent, Lent, Held, Saved, Pairs, Paired}
 use Rattle.lanes.proofs.Writes.{saved_as, held_step}
 use Rattle.kernel.proofs.Kernel.{output_of_lem, eight}
 
@@ -32,7 +32,8 @@ Kept N i len j M r src tw ra ia rb ib = (lent : ℕ → ℕ → Complex) → Len
 pub kept_none : (N i len M r : ℕ) (src tw ra ia rb ib : List Float) → Kept N i len 0 M r src tw ra ia rb ib
 kept_none N i len M r src tw ra ia rb ib lent f = (λ x j p lj lp. absurd (omega arith), λ x j p lj lp. absurd (omega arith))
 
-module _ (N i len j M r : ℕ) (src tw ra ia rb ib : List Float) (before : Kept N i len j M r src tw ra ia rb ib) (lj : j < len) (few : j < 16)
+module _ (N i len j M r : ℕ) (src tw ra ia rb ib : List Float) (pairs : Pairs ra ia rb ib) (before : Kept N i len j M r src tw ra ia rb ib)
+    (lj : j < len) (few : j < 16)
     (ρ : ℕ) (e : r ≡ ρ) where
   -- what iteration i + j reads with radix ρ written out
   abbrev Reads : List Complex → Type 0
@@ -53,8 +54,26 @@ module _ (N i len j M r : ℕ) (src tw ra ia rb ib : List Float) (before : Kept 
       (rw (er, ei, e) (saved_as _ _ _ _ (output_of false M ρ src lent (i + j))
       (λ p l. output_of_lem false M src lent (i + j) ρ c some (w.0 lent (rw e at (mine lent f))) p) w.1))
 
-  pub low_arm : (c : List Complex) (re im ra' ia' rb' ib' : List Float) → 0 < ρ → ρ < 7 → Does c ra ia re im → ra' ≡ re → ia' ≡ im → Kept N i len (j + 1) M r src tw ra' ia' rb' ib'
-  low_arm c re im ra' ia' rb' ib' some low w er ei lent f = (λ x. step lent f c some w er ei ((before lent f).0 x), λ x. absurd (omega (arith, e)))
+  pub low_arm : (c : List Complex) (re im ra' ia' rb' ib' : List Float) → 0 < ρ → ρ < 7 → Does c ra ia re im → ra' ≡ re → ia' ≡ im → rb' ≡ rb → ib' ≡ ib
+      → Pairs ra' ia' rb' ib' × Kept N i len (j + 1) M r src tw ra' ia' rb' ib'
+  low_arm c re im ra' ia' rb' ib' some low w er ei sr si = (
+    record {
+      size_ra = ap length er ∙ w.1.size_re ∙ pairs.size_ra;
+      size_ia = ap length ei ∙ w.1.size_im ∙ pairs.size_ia;
+      size_rb = ap length sr ∙ pairs.size_rb;
+      size_ib = ap length si ∙ pairs.size_ib;
+    },
+    λ lent f. (λ x. step lent f c some w er ei ((before lent f).0 x), λ x. absurd (omega (arith, e))),
+  )
 
-  pub high_arm : (c : List Complex) (re im ra' ia' rb' ib' : List Float) → 0 < ρ → 7 ≤ ρ → Does c rb ib re im → rb' ≡ re → ib' ≡ im → Kept N i len (j + 1) M r src tw ra' ia' rb' ib'
-  high_arm c re im ra' ia' rb' ib' some high w er ei lent f = (λ x. absurd (omega (arith, e)), λ x. step lent f c some w er ei ((before lent f).1 x))
+  pub high_arm : (c : List Complex) (re im ra' ia' rb' ib' : List Float) → 0 < ρ → 7 ≤ ρ → Does c rb ib re im → ra' ≡ ra → ia' ≡ ia → rb' ≡ re → ib' ≡ im
+      → Pairs ra' ia' rb' ib' × Kept N i len (j + 1) M r src tw ra' ia' rb' ib'
+  high_arm c re im ra' ia' rb' ib' some high w sr si er ei = (
+    record {
+      size_ra = ap length sr ∙ pairs.size_ra;
+      size_ia = ap length si ∙ pairs.size_ia;
+      size_rb = ap length er ∙ w.1.size_re ∙ pairs.size_rb;
+      size_ib = ap length ei ∙ w.1.size_im ∙ pairs.size_ib;
+    },
+    λ lent f. (λ x. absurd (omega (arith, e)), λ x. step lent f c some w er ei ((before lent f).1 x)),
+  )

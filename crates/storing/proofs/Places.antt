@@ -1,9 +1,10 @@
 -- The outputs of a later stage reach their cells, a row of a block at a time. Assumes nothing.
 use Rattle.sequences.proofs.Basics.{◌≡◌, ap, ◌∙◌, ℕ, suc, ◌+◌, ◌*◌, ◌/◌, ◌%◌, ◌≤◌, ◌<◌, add_assoc, div-lt_iff_lt-mul, mul-le-mul_right, suc-mul, mul_comm}
-use Rattle.sequences.proofs.Basics.{arith, dec_le, List, length}
+use Rattle.sequences.proofs.Basics.{arith, dec_le, List}
 use lib.Ieee.{Float}
 use Rattle.floats.specs.declared.complex.Complex.{Complex}
 use Rattle.lanes.specs.Parts.{lane, Held, Paired}
+use Rattle.lanes.specs.declared.inner.lanes.Outputs.{Outputs}
 use Rattle.storing.specs.Parts.{InBlock, Blocks}
 
 -- row p of a block has room
@@ -25,20 +26,12 @@ pub held_from : (i len r : ℕ) (v : ℕ → ℕ → Complex) (re im : List Floa
     → (t p : ℕ) → t < n → p < r → lane re im (16 * p + j + t) ≡ v (i + j + t) p
 held_from i len r v re im j n l held t p lt lp = rw (add_assoc (16 * p) j t, add_assoc i j t) (held (j + t) p (omega arith) lp)
 
--- lanes of two pairs, picked by the radix
-pub picked : (i n r : ℕ) (v : ℕ → ℕ → Complex) (ra ia rb ib p q : List Float) → (r < 7 → p ≡ ra) × (7 ≤ r → p ≡ rb) → (r < 7 → q ≡ ia) × (7 ≤ r → q ≡ ib)
-    → Paired i n r v ra ia rb ib → Held i n r v p q
-picked i n r v ra ia rb ib p q is-re is-im held = pick (dec_le 7 r)
+-- the outputs of two, picked by the radix
+pub picked : (i n r : ℕ) (v : ℕ → ℕ → Complex) (a b o : Outputs) → (r < 7 → o ≡ a) × (7 ≤ r → o ≡ b) → Paired i n r v a.re a.im b.re b.im → Held i n r v o.re o.im
+picked i n r v a b o is held = pick (dec_le 7 r)
   where
-    pick : Dec (7 ≤ r) → Held i n r v p q
-    pick (yes x) = rw (is-re.1 x, is-im.1 x) (held.1 x)
+    pick : Dec (7 ≤ r) → Held i n r v o.re o.im
+    pick (yes x) = rw (is.1 x) (held.1 x)
     pick (no x) =
         let l : r < 7 = omega (arith, x) in
-        rw (is-re.0 l, is-im.0 l) (held.0 l)
-
-pub picked_size : (r n : ℕ) (a b p : List Float) → (r < 7 → p ≡ a) × (7 ≤ r → p ≡ b) → length a ≡ n → length b ≡ n → length p ≡ n
-picked_size r n a b p is la lb = pick (dec_le 7 r)
-  where
-    pick : Dec (7 ≤ r) → length p ≡ n
-    pick (yes x) = rw (is.1 x) lb
-    pick (no x) = rw (is.0 (omega (arith, x))) la
+        rw (is.0 l) (held.0 l)

@@ -70,6 +70,7 @@ impl<'a> Row<'a> {
         let mut ahead = [0.0; 64];
         let mut back = [0.0; 64];
         let end = (self.h + 1) / 2;
+        // by while: the last batch is shorter
         let mut k = 1;
         while k < end {
             let len = (end - k).min(32);

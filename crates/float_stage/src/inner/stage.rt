@@ -10,11 +10,11 @@ ghost use Rattle.float_stage.specs.Parts.{Lending, Workable};
 use crate::inner::first::first;
 use crate::inner::lent::{Layout, fetch, first_word, laid_out, lent};
 use counts::inner::stages::stride;
-use lanes::inner::lanes::lanes;
+use lanes::inner::lanes::{Outputs, lanes};
 use plan::Record;
 use storing::inner::storing::{Place, evenly, store};
 
-// The first stage of radix r, of m iterations.
+// The first stage of radix r, of m iterations. The loops of a stage are by while, since how far a round goes is found in it.
 fn first_stage(src: &[f32], dst: &mut [f32], m: usize, r: usize)
     requires { Sized m r (length src.now) × (2 * (m * r) ≤ length dst.old) }
     ensures { (lent : ℕ → ℕ → Complex) → Done 1 r (output_of true m r src.now lent) dst.new m }
@@ -48,10 +48,8 @@ fn by_fours(
     requires { Sized m r (length src.now) × (2 * (m * (r - 1)) ≤ length tw.now) × Blocks m s r (length dst.old) × Batch even × Even even s × (end ≤ m / 4 * 4) × (end % 4 ≡ 0) × (3 ≤ r) }
     ensures { Placed even end s r result.block result.col × Done s r (output_of false m r src.now (lent_at m r 4 tw.now)) dst.new end }
 {
-    let mut ra = [0.0f32; 128];
-    let mut ia = [0.0f32; 128];
-    let mut rb = [0.0f32; 128];
-    let mut ib = [0.0f32; 128];
+    let mut low = Outputs::new();
+    let mut high = Outputs::new();
     let mut at = Place { block: 0, col: 0 };
     let mut i = 0;
     while i < end {
@@ -59,16 +57,14 @@ fn by_fours(
         lanes::<4>(
             src,
             lent(tw, tw, Layout::Beside, first_word(i, r)),
-            &mut ra,
-            &mut ia,
-            &mut rb,
-            &mut ib,
+            &mut low,
+            &mut high,
             i,
             m,
             len,
             r,
         );
-        at = store::<4>(&ra, &ia, &rb, &ib, dst, at, i, m, len, s, r, even);
+        at = store::<4>(&low, &high, dst, at, i, m, len, s, r, even);
         i += len;
     }
     at
@@ -91,10 +87,8 @@ fn by_sixteens(
     ensures { Done s r (output_of false m r src.now (lent_at m r w tw.now)) dst.old end → Done s r (output_of false m r src.now (lent_at m r w tw.now)) dst.new m }
 {
     let mut t = [0.0f32; 224];
-    let mut ra = [0.0f32; 128];
-    let mut ia = [0.0f32; 128];
-    let mut rb = [0.0f32; 128];
-    let mut ib = [0.0f32; 128];
+    let mut low = Outputs::new();
+    let mut high = Outputs::new();
     let layout = laid_out(w);
     let mut at = start;
     let mut i = end;
@@ -104,16 +98,14 @@ fn by_sixteens(
         lanes::<16>(
             src,
             lent(tw, &t, layout, first_word(i, r)),
-            &mut ra,
-            &mut ia,
-            &mut rb,
-            &mut ib,
+            &mut low,
+            &mut high,
             i,
             m,
             len,
             r,
         );
-        at = store::<16>(&ra, &ia, &rb, &ib, dst, at, i, m, len, s, r, even);
+        at = store::<16>(&low, &high, dst, at, i, m, len, s, r, even);
         i += len;
     }
 }

@@ -1,5 +1,5 @@
-// Iterations of a later stage in lanes, at most N at a time: output p of lane j stands at 16 * p + j of two arrays of 128. The twiddles stand as
-// packed for width 4 where N is 4, and else one iteration after the other.
+// Iterations of a later stage in lanes, at most N at a time. The twiddles stand as packed for width 4 where N is 4, and else one iteration after the
+// other.
 ghost use Rattle.std.specs.Prelude.{◌≡◌, true, false, ℕ, ◌+◌, ◌-◌, ◌*◌, ◌<◌, ◌≤◌, length, get_or};
 ghost use Rattle.radices.specs.Lists.{is_radix};
 ghost use Rattle.schedule.specs.Parts.{Every};
@@ -10,28 +10,48 @@ ghost use Rattle.lanes.specs.Parts.{slot, rows_lent, Lent, Taken, Saved, Pairs, 
 use floats::complex::Complex;
 use kernel::inner::kernel::{output, twiddled};
 
-// Every second of the r outputs of the cells c to lane j, each stored when it is made.
-fn every_second(c: [Complex; 8], re: &mut [f32], im: &mut [f32], j: usize, r: usize, from: usize)
-    requires { (is_radix r ≡ true) × (2 ≤ r) × (r ≤ 8) × (j < 16) × (from < 2) × (length re.old ≡ 128) × (length im.old ≡ 128) }
-    ensures { Taken (Every from r) (kernel_of r (λ q. get_or c q blank)) j re.old im.old re.new im.new }
+// The outputs of iterations in lanes: output p of lane j stands at 16 * p + j.
+#[derive(Drop)]
+pub struct Outputs {
+    pub re: [f32; 128],
+    pub im: [f32; 128],
+}
+
+impl Outputs {
+    // None yet.
+    pub fn new() -> Outputs
+        ensures { (length result.re ≡ 128) × (length result.im ≡ 128) }
+    {
+        Outputs {
+            re: [0.0; 128],
+            im: [0.0; 128],
+        }
+    }
+}
+
+// Every second of the r outputs of the cells c to lane j, each stored when it is made. By while: step_by would want a measure and no less of an
+// invariant.
+fn every_second(c: [Complex; 8], to: &mut Outputs, j: usize, r: usize, from: usize)
+    requires { (is_radix r ≡ true) × (2 ≤ r) × (r ≤ 8) × (j < 16) × (from < 2) }
+    ensures { Taken (Every from r) (kernel_of r (λ q. get_or c q blank)) j to.old.re to.old.im to.new.re to.new.im }
 {
     let mut p = from;
     while p < r {
         let z = output(c, r, p);
         let k = 16 * p + j;
-        re[k] = z.re;
-        im[k] = z.im;
+        to.re[k] = z.re;
+        to.im[k] = z.im;
         p += 2;
     }
 }
 
 // The r outputs of the cells c to lane j: the even ones, then the odd ones, which share most with each other.
-fn save(c: [Complex; 8], re: &mut [f32], im: &mut [f32], j: usize, r: usize)
-    requires { (is_radix r ≡ true) × (2 ≤ r) × (r ≤ 8) × (j < 16) × (length re.old ≡ 128) × (length im.old ≡ 128) }
-    ensures { Saved (kernel_of r (λ q. get_or c q blank)) j r re.old im.old re.new im.new }
+fn save(c: [Complex; 8], to: &mut Outputs, j: usize, r: usize)
+    requires { (is_radix r ≡ true) × (2 ≤ r) × (r ≤ 8) × (j < 16) }
+    ensures { Saved (kernel_of r (λ q. get_or c q blank)) j r to.old.re to.old.im to.new.re to.new.im }
 {
-    every_second(c, re, im, j, r, 0);
-    every_second(c, re, im, j, r, 1);
+    every_second(c, to, j, r, 0);
+    every_second(c, to, j, r, 1);
 }
 
 // What iteration i reads, of lane j.
@@ -53,30 +73,29 @@ fn read<const N: usize>(
     }
 }
 
-// Iterations i to i + len, to the lanes, each radix of a later stage written out: those below 7 to one pair of arrays, the others to another.
+// Iterations i to i + len, to the lanes, each radix of a later stage written out: those below 7 to `low`, the others to `high`.
 pub fn lanes<const N: usize>(
     src: &[f32],
     tw: &[f32],
-    ra: &mut [f32],
-    ia: &mut [f32],
-    rb: &mut [f32],
-    ib: &mut [f32],
+    low: &mut Outputs,
+    high: &mut Outputs,
     i: usize,
     m: usize,
     len: usize,
     r: usize,
 )
-    requires { Sized m r (length src.now) × (i + len ≤ m) × (len ≤ N) × (N ≤ 16) × (2 * (rows_lent N len * (r - 1)) ≤ length tw.now) × Pairs ra.old ia.old rb.old ib.old × (3 ≤ r) }
-    ensures { Pairs ra.new ia.new rb.new ib.new × ((lent : ℕ → ℕ → Complex) → Lent N i len r lent tw.now → Paired i len r (output_of false m r src.now lent) ra.new ia.new rb.new ib.new) }
+    requires { Sized m r (length src.now) × (i + len ≤ m) × (len ≤ N) × (N ≤ 16) × (2 * (rows_lent N len * (r - 1)) ≤ length tw.now) × (3 ≤ r) }
+    ensures { Pairs low.new.re low.new.im high.new.re high.new.im × ((lent : ℕ → ℕ → Complex) → Lent N i len r lent tw.now → Paired i len r (output_of false m r src.now lent) low.new.re low.new.im high.new.re high.new.im) }
 {
+    // read and save are two calls in each arm: as one helper they are not inlined, and a call at 1,024 takes 201,499 instructions for 56,272
     for j in 0..len {
         let k = i + j;
         match r {
-            3 => save(read::<N>(src, tw, k, m, j, 3), ra, ia, j, 3),
-            4 => save(read::<N>(src, tw, k, m, j, 4), ra, ia, j, 4),
-            5 => save(read::<N>(src, tw, k, m, j, 5), ra, ia, j, 5),
-            7 => save(read::<N>(src, tw, k, m, j, 7), rb, ib, j, 7),
-            _ => save(read::<N>(src, tw, k, m, j, 8), rb, ib, j, 8),
+            3 => save(read::<N>(src, tw, k, m, j, 3), low, j, 3),
+            4 => save(read::<N>(src, tw, k, m, j, 4), low, j, 4),
+            5 => save(read::<N>(src, tw, k, m, j, 5), low, j, 5),
+            7 => save(read::<N>(src, tw, k, m, j, 7), high, j, 7),
+            _ => save(read::<N>(src, tw, k, m, j, 8), high, j, 8),
         }
     }
 }

@@ -1,41 +1,41 @@
 // Outputs of iterations in lanes to their cells, some of one block at a time.
 ghost use Rattle.std.specs.Prelude.{◌≡◌, ℕ, ◌+◌, ◌-◌, ◌*◌, ◌/◌, ◌%◌, ◌^◌, ◌<◌, ◌≤◌, length};
-ghost use Rattle.lanes.specs.Parts.{lane, Pairs, Paired};
+ghost use Rattle.lanes.specs.Parts.{lane, Paired};
 ghost use Rattle.storing.specs.Parts.{Wrote, Done, InBlock, Stored, Batch, Even, Evenly, Placed, Waiting};
 
 use floats::complex::Complex;
 use floats::inner::cells::put;
+use lanes::inner::lanes::Outputs;
 
 // n cells of the lanes from k on, to the cells from `at` on.
-fn row(re: &[f32], im: &[f32], k: usize, dst: &mut [f32], at: usize, n: usize)
-    requires { (k + n ≤ 128) × (length re.now ≡ 128) × (length im.now ≡ 128) × (2 * (at + n) ≤ length dst.old) }
-    ensures { Wrote (λ t. lane re.now im.now (k + t)) at n dst.old dst.new }
+fn row(from: &Outputs, k: usize, dst: &mut [f32], at: usize, n: usize)
+    requires { (k + n ≤ 128) × (2 * (at + n) ≤ length dst.old) }
+    ensures { Wrote (λ t. lane from.now.re from.now.im (k + t)) at n dst.old dst.new }
 {
     for t in 0..n {
         let z = Complex {
-            re: re[k + t],
-            im: im[k + t],
+            re: from.re[k + t],
+            im: from.im[k + t],
         };
         put(dst, at + t, z);
     }
 }
 
 // The same for 1, 2 or 4 cells, each written out.
-fn piece(re: &[f32], im: &[f32], k: usize, dst: &mut [f32], at: usize, n: usize)
-    requires { Batch n × (0 < n) × (k + n ≤ 128) × (length re.now ≡ 128) × (length im.now ≡ 128) × (2 * (at + n) ≤ length dst.old) }
-    ensures { Wrote (λ t. lane re.now im.now (k + t)) at n dst.old dst.new }
+fn piece(from: &Outputs, k: usize, dst: &mut [f32], at: usize, n: usize)
+    requires { Batch n × (0 < n) × (k + n ≤ 128) × (2 * (at + n) ≤ length dst.old) }
+    ensures { Wrote (λ t. lane from.now.re from.now.im (k + t)) at n dst.old dst.new }
 {
     match n {
-        4 => row(re, im, k, dst, at, 4),
-        2 => row(re, im, k, dst, at, 2),
-        _ => row(re, im, k, dst, at, 1),
+        4 => row(from, k, dst, at, 4),
+        2 => row(from, k, dst, at, 2),
+        _ => row(from, k, dst, at, 1),
     }
 }
 
 // The outputs of the n iterations from i on, which are of one block, from the lanes from j on to their cells, the first at `at`.
 pub fn rows(
-    re: &[f32],
-    im: &[f32],
+    from: &Outputs,
     j: usize,
     dst: &mut [f32],
     at: usize,
@@ -44,11 +44,11 @@ pub fn rows(
     s: usize,
     r: usize,
 )
-    requires { InBlock i n s r (length dst.old) × (at ≡ i / s * (s * r) + i % s) × Batch n × (0 < n) × (j + n ≤ 16) × (length re.now ≡ 128) × (length im.now ≡ 128) }
-    ensures { (v : ℕ → ℕ → Complex) → ((t p : ℕ) → t < n → p < r → lane re.now im.now (16 * p + j + t) ≡ v (i + t) p) → Done s r v dst.old i → Done s r v dst.new (i + n) }
+    requires { InBlock i n s r (length dst.old) × (at ≡ i / s * (s * r) + i % s) × Batch n × (0 < n) × (j + n ≤ 16) }
+    ensures { (v : ℕ → ℕ → Complex) → ((t p : ℕ) → t < n → p < r → lane from.now.re from.now.im (16 * p + j + t) ≡ v (i + t) p) → Done s r v dst.old i → Done s r v dst.new (i + n) }
 {
     for p in 0..r {
-        piece(re, im, 16 * p + j, dst, at + p * s, n);
+        piece(from, 16 * p + j, dst, at + p * s, n);
     }
 }
 
@@ -108,11 +108,11 @@ pub fn onward(at: Place, n: usize, s: usize, r: usize) -> Place
     }
 }
 
-// The lanes that radix r is kept in: an array serves some arms only, so that the compiler still sees that it does not escape.
-fn pick<'a>(a: &'a [f32], b: &'a [f32], r: usize) -> &'a [f32]
-    ensures { (r < 7 → result.now ≡ a.now) × (7 ≤ r → result.now ≡ b.now) }
+// The outputs of radix r: each of the two serves some radices only, so that the compiler still sees that its arrays do not escape.
+fn pick<'a>(low: &'a Outputs, high: &'a Outputs, r: usize) -> &'a Outputs
+    ensures { (r < 7 → result.now ≡ low.now) × (7 ≤ r → result.now ≡ high.now) }
 {
-    if r < 7 { a } else { b }
+    if r < 7 { low } else { high }
 }
 
 // How far the outputs of iterations in lanes are stored: the place of the next, and its lane.
@@ -124,10 +124,8 @@ pub struct Next {
 
 // Of the len iterations from i on, whose outputs are stored below lane j, some more of one block.
 pub fn step<'a>(
-    ra: &'a [f32],
-    ia: &'a [f32],
-    rb: &'a [f32],
-    ib: &'a [f32],
+    low: &'a Outputs,
+    high: &'a Outputs,
     dst: &mut [f32],
     at: Place,
     i: usize,
@@ -138,13 +136,12 @@ pub fn step<'a>(
     r: usize,
     even: usize,
 ) -> Next
-    requires { Stored i m len s r (length dst.old) × Evenly even len s × Waiting even i len s r at.block at.col j × (j < len) × Pairs ra.now ia.now rb.now ib.now }
-    ensures { Waiting even i len s r result.at.block result.at.col result.j × (j < result.j) × ((v : ℕ → ℕ → Complex) → Paired i len r v ra.now ia.now rb.now ib.now → Done s r v dst.old (i + j) → Done s r v dst.new (i + result.j)) }
+    requires { Stored i m len s r (length dst.old) × Evenly even len s × Waiting even i len s r at.block at.col j × (j < len) }
+    ensures { Waiting even i len s r result.at.block result.at.col result.j × (j < result.j) × ((v : ℕ → ℕ → Complex) → Paired i len r v low.now.re low.now.im high.now.re high.now.im → Done s r v dst.old (i + j) → Done s r v dst.new (i + result.j)) }
 {
-    let re = pick(ra, rb, r);
-    let im = pick(ia, ib, r);
+    let from = pick(low, high, r);
     let n = batch(even, s - at.col, len - j);
-    rows(re, im, j, dst, at.block + at.col, i + j, n, s, r);
+    rows(from, j, dst, at.block + at.col, i + j, n, s, r);
     Next {
         at: onward(at, n, s, r),
         j: j + n,
@@ -154,12 +151,10 @@ pub fn step<'a>(
 // The outputs of the len iterations from i on, at most N, from the lanes to their cells, some of one block at a time; and the place of the next. Each N
 // is an instance of its own, since the compiler makes vectors only of lanes that one function stores.
 pub fn store<'a, const N: usize>(
-    ra: &'a [f32],
-    ia: &'a [f32],
-    rb: &'a [f32],
-    ib: &'a [f32],
+    low: &'a Outputs,
+    high: &'a Outputs,
     dst: &mut [f32],
-    from: Place,
+    start: Place,
     i: usize,
     m: usize,
     len: usize,
@@ -167,12 +162,13 @@ pub fn store<'a, const N: usize>(
     r: usize,
     even: usize,
 ) -> Place
-    requires { Stored i m len s r (length dst.old) × (len ≤ N) × Evenly even len s × Placed even i s r from.block from.col × Pairs ra.now ia.now rb.now ib.now }
-    ensures { Placed even (i + len) s r result.block result.col × ((v : ℕ → ℕ → Complex) → Paired i len r v ra.now ia.now rb.now ib.now → Done s r v dst.old i → Done s r v dst.new (i + len)) }
+    requires { Stored i m len s r (length dst.old) × (len ≤ N) × Evenly even len s × Placed even i s r start.block start.col }
+    ensures { Placed even (i + len) s r result.block result.col × ((v : ℕ → ℕ → Complex) → Paired i len r v low.now.re low.now.im high.now.re high.now.im → Done s r v dst.old i → Done s r v dst.new (i + len)) }
 {
-    let mut next = Next { at: from, j: 0 };
+    // by while: how many are stored at once is found in each step
+    let mut next = Next { at: start, j: 0 };
     while next.j < len {
-        next = step(ra, ia, rb, ib, dst, next.at, i, next.j, m, len, s, r, even);
+        next = step(low, high, dst, next.at, i, next.j, m, len, s, r, even);
     }
     next.at
 }

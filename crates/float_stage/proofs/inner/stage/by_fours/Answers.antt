@@ -13,7 +13,13 @@ loop-i-init c =
       record {
         fits = omega arith;
         size = refl;
-        pairs = record { size_ra = refl; size_ia = refl; size_rb = refl; size_ib = refl };
+        pairs =
+            record {
+              size_ra = c.new-low.ensures.0;
+              size_ia = c.new-low.ensures.1;
+              size_rb = c.new-high.ensures.0;
+              size_ib = c.new-high.ensures.1;
+            };
         even = even_none a.even a.s p.4;
         placed = placed_first a.even a.s a.r a.s p.4 p.2.stride;
         done = λ done. done;
@@ -41,7 +47,7 @@ lanes-requires c =
     let part =
     four_part c.loop-i.i n.result a.m a.r a.tw.now _ c.first_word.ensures (c.lent.ensures.0 refl) c.loop-i.invariant.0 four
     (omega (arith, fits, c.requires.5)) c.requires.1 in
-    (c.requires.0, omega (arith, fits, c.requires.5), omega arith, omega arith, part.1, c.loop-i.invariant.1.pairs, c.requires.7)
+    (c.requires.0, omega (arith, fits, c.requires.5), omega arith, omega arith, part.1, c.requires.7)
 
 pub store-at-requires : goal.store-at-requires
 store-at-requires c =

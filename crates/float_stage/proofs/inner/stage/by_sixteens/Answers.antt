@@ -1,5 +1,6 @@
 -- `float_stage::inner::stage::by_sixteens` meets its contract. Assumes nothing.
 use Rattle.sequences.proofs.Basics.{refl, sym, ◌∙◌, ◌+◌, ◌≤◌, ◌<◌, arith}
+use Rattle.storing.specs.Parts.{Even}
 use Rattle.float_stage.proofs.Widths.{past_room, lent_part}
 use Rattle.float_stage.proofs.Rounds.{even_batch, round_asks, round_next}
 use Rattle.float_stage.proofs.inner.stage.by_sixteens.Goals as goal
@@ -12,7 +13,13 @@ loop-i-init c =
       record {
         fits = p.6;
         size = refl;
-        pairs = record { size_ra = refl; size_ia = refl; size_rb = refl; size_ib = refl };
+        pairs =
+            record {
+              size_ra = c.new-low.ensures.0;
+              size_ia = c.new-low.ensures.1;
+              size_rb = c.new-high.ensures.0;
+              size_ib = c.new-high.ensures.1;
+            };
         even = p.8;
         placed = p.9;
         done = λ done. done;
@@ -49,14 +56,14 @@ lanes-requires c =
     let part =
     lent_part c.laid_out-layout.result c.loop-i.i n.result a.m a.r a.w a.tw.now _ _ c.first_word.ensures c.laid_out-layout.ensures.0
     c.loop-i.invariant.1 fits (omega arith) c.requires.0.few c.requires.1.lent (c.fetch.auto.t ∙ c.loop-i.invariant.0) c.lent.ensures c.fetch.ensures in
-    (c.requires.0, fits, omega arith, omega arith, part.1, c.loop-i.invariant.2.pairs, c.requires.1.later)
+    (c.requires.0, fits, omega arith, omega arith, part.1, c.requires.1.later)
 
 pub store-at-requires : goal.store-at-requires
 store-at-requires c =
     let a = c.args in
     let n = c.min-len in
     let fits : c.loop-i.i + n.result ≤ a.m = omega arith in
-    let even = even_batch a.even c.loop-i.i a.m a.s a.r _ c.requires.5 c.requires.3 c.loop-i.invariant.2.even (λ x. omega arith) (λ x. omega arith) in
+    let even : Even a.even n.result = even_batch a.even c.loop-i.i a.m a.s a.r _ c.requires.5 c.requires.3 c.loop-i.invariant.2.even (λ x. omega arith) (λ x. omega arith) in
     round_asks n.result c.loop-i.invariant.2 even c.lanes.ensures.0 c.requires.3 c.requires.4 c.requires.5 fits (omega arith) (omega arith)
 
 pub overflow_add-i : goal.overflow_add-i
@@ -79,7 +86,7 @@ loop-i-preserved c =
     let a = c.args in
     let n = c.min-len in
     let fits : c.loop-i.i + n.result ≤ a.m = omega arith in
-    let even = even_batch a.even c.loop-i.i a.m a.s a.r _ c.requires.5 c.requires.3 c.loop-i.invariant.2.even (λ x. omega arith) (λ x. omega arith) in
+    let even : Even a.even n.result = even_batch a.even c.loop-i.i a.m a.s a.r _ c.requires.5 c.requires.3 c.loop-i.invariant.2.even (λ x. omega arith) (λ x. omega arith) in
     let part =
     lent_part c.laid_out-layout.result c.loop-i.i n.result a.m a.r a.w a.tw.now _ _ c.first_word.ensures c.laid_out-layout.ensures.0
     c.loop-i.invariant.1 fits (omega arith) c.requires.0.few c.requires.1.lent (c.fetch.auto.t ∙ c.loop-i.invariant.0) c.lent.ensures c.fetch.ensures in (

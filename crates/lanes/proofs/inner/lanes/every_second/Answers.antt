@@ -10,15 +10,9 @@ pub loop-p-preserved : goal.loop-p-preserved
 loop-p-preserved c = let l = c.loop-p in (
   omega arith,
   omega (arith, l.invariant.1),
-  every_step _ _ _ _ _ l.p l.re l.im _ l.invariant.1 (omega (arith, l.invariant.2.size_re)) (omega (arith, l.invariant.2.size_im)) l.invariant.2
+  every_step _ _ _ _ _ l.p l.to.re l.to.im _ l.invariant.1 (omega (arith, l.invariant.2.size_re)) (omega (arith, l.invariant.2.size_im)) l.invariant.2
       c.output-z.ensures,
 )
-
-pub shape_of-re : goal.shape_of-re
-shape_of-re c = c.loop-p.invariant.2.size_re
-
-pub shape_of-im : goal.shape_of-im
-shape_of-im c = c.loop-p.invariant.2.size_im
 
 pub returns : goal.returns
 returns c = let l = c.loop-p in every_end _ _ _ _ _ l.p c.args.r l.invariant.1 (omega arith) l.invariant.0 l.invariant.2

@@ -29,8 +29,6 @@ piece-requires c = (
   c.requires.2,
   omega arith,
   omega arith,
-  omega arith,
-  omega arith,
   omega (
     arith,
     row_room c.args.i c.args.n c.args.s c.args.r (length c.args.dst.now) c.loop-p.p c.requires.0 (omega arith),

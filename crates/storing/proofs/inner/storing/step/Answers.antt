@@ -1,6 +1,6 @@
 -- `storing::inner::storing::step` meets its contract. Assumes nothing.
 use Rattle.sequences.proofs.Basics.{arith}
-use Rattle.storing.proofs.Places.{picked, picked_size}
+use Rattle.storing.proofs.Places.{picked}
 use Rattle.storing.proofs.Batches.{waiting_asks, waiting_room, waiting_within, waiting_rows, waiting_next, waiting_done}
 use Rattle.storing.proofs.inner.storing.step.Goals as goal
 
@@ -14,15 +14,7 @@ pub overflow_add-at : goal.overflow_add-at
 overflow_add-at c = let p = c.requires in omega (arith, waiting_room p.0 p.1 p.2 p.3)
 
 pub rows-requires : goal.rows-requires
-rows-requires c = let p = c.requires in let b = c.batch-n.ensures in let w = waiting_rows p.0 p.1 p.2 p.3 b in (
-  w.0,
-  w.1,
-  b.0,
-  b.1,
-  w.2,
-  picked_size c.args.r 128 _ _ _ c.pick-re.ensures p.4.size_ra p.4.size_rb,
-  picked_size c.args.r 128 _ _ _ c.pick-im.ensures p.4.size_ia p.4.size_ib,
-)
+rows-requires c = let p = c.requires in let b = c.batch-n.ensures in let w = waiting_rows p.0 p.1 p.2 p.3 b in (w.0, w.1, b.0, b.1, w.2)
 
 pub onward-requires : goal.onward-requires
 onward-requires c = let p = c.requires in (waiting_within p.0 p.1 p.2 p.3 c.batch-n.ensures, omega (arith, waiting_room p.0 p.1 p.2 p.3))
@@ -31,6 +23,6 @@ pub returns : goal.returns
 returns c = let a = c.args in let p = c.requires in let b = c.batch-n.ensures in let rows = c.rows in (
   waiting_next p.0 p.1 p.2 p.3 b c.onward.ensures,
   omega (arith, b.1),
-  λ v held. waiting_done p.0 p.1 p.2 p.3 b c.pick-re.result.now c.pick-im.result.now a.dst.now rows.new.dst
-      rows.ensures v (picked a.i a.len a.r v _ _ _ _ _ _ c.pick-re.ensures c.pick-im.ensures held),
+  λ v held. waiting_done p.0 p.1 p.2 p.3 b c.pick-from.result.now.re c.pick-from.result.now.im a.dst.now rows.new.dst
+      rows.ensures v (picked a.i a.len a.r v a.low.now a.high.now _ c.pick-from.ensures held),
 )

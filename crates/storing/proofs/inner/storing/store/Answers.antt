@@ -7,7 +7,7 @@ pub loop-next-init : goal.loop-next-init
 loop-next-init g c = let p = c.requires in storing_none p.2 p.3
 
 pub step-next-requires : goal.step-next-requires
-step-next-requires g c = let p = c.requires in storing_asks c.loop-next.invariant p.0 p.2 c.loop-next-test.true p.4
+step-next-requires g c = let p = c.requires in storing_asks c.loop-next.invariant p.0 p.2 c.loop-next-test.true
 
 pub loop-next-smaller : goal.loop-next-smaller
 loop-next-smaller g c = omega (arith, c.step-next.ensures.0.fits)
