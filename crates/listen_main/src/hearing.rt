@@ -123,6 +123,7 @@ fn hear_blocks(
 ) -> Result<Heard, Fault>
     requires { (length room.bytes.now ≡ 2 * setup.now.plan.n) × (length room.samples.now ≡ setup.now.plan.n) }
 {
+    // Apart, since the check does not cover two fields lent at once behind a reference.
     let Room {
         stage,
         end,

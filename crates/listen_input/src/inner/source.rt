@@ -115,7 +115,7 @@ pub fn bare(rate: usize) -> Start {
     }
 }
 
-// Reads so many bytes, or all that there are, keeps none, and answers how many came.
+// Reads so many bytes, or all that there are, keeps none, and answers how many came. A read brings as many as it likes, so the loop counts them.
 pub fn skip(source: &mut Source, count: usize) -> Result<usize, Broken>
     ensures came { IfOk result (λ n. n ≤ count) }
     ensures broken { IfErr result (λ e. e.after ≤ count) }
@@ -196,6 +196,7 @@ fn walked(source: &mut Source, total: usize) -> Result<Start, Fault>
     requires { 12 ≤ total }
 {
     let mut at: usize = 12;
+    // 0 before the first format, as `step` takes it
     let mut rate: u32 = 0;
     loop {
         let mut window = [0u8; 24];
