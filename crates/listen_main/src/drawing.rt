@@ -9,7 +9,7 @@ use listening::Band;
 use std::io::Print;
 
 // Draws the sums of so many blocks, a row for each bin up to 9 and for a fifth more from then on; the band's bins stand in rows of their own.
-pub fn draw(rt: &HostRuntime, s: &Setup, sums: &[f64], blocks: usize) -> Result<(), Unwritten>
+pub fn draw(rt: &HostRuntime, setup: &Setup, sums: &[f64], blocks: usize) -> Result<(), Unwritten>
     requires { length sums.now ≤ 3361 }
 {
     if blocks == 0 {
@@ -18,13 +18,18 @@ pub fn draw(rt: &HostRuntime, s: &Setup, sums: &[f64], blocks: usize) -> Result<
     let _ = rt.write_all(
         b"mean spectrum, the band in #\n        Hz     dB  -90       -75       -60       -45       -30       -15       0\n",
     );
+    // Rows widen, so no range steps over them.
     let mut at: usize = 1;
     while at < sums.len() {
-        let next = row_end(at, s.band, sums.len());
-        let level = level_of(s.full, step(mean(&sums[at..next], blocks)));
+        let next = row_end(at, setup.band, sums.len());
+        let level = level_of(setup.full, step(mean(&sums[at..next], blocks)));
         print_line(
             rt,
-            row_line(hertz(s, at), level, s.band.lo <= at && at <= s.band.hi),
+            row_line(
+                hertz(setup, at),
+                level,
+                setup.band.lo <= at && at <= setup.band.hi,
+            ),
         )?;
         at = next;
     }
@@ -32,10 +37,10 @@ pub fn draw(rt: &HostRuntime, s: &Setup, sums: &[f64], blocks: usize) -> Result<
 }
 
 // The frequency of a bin, to nearest.
-fn hertz(s: &Setup, bin: usize) -> usize
+fn hertz(setup: &Setup, bin: usize) -> usize
     requires { bin ≤ 3361 }
 {
-    (bin * s.rate + s.plan.n / 2) / s.plan.n
+    (bin * setup.rate + setup.plan.n / 2) / setup.plan.n
 }
 
 // The bin behind a row that begins at a bin.

@@ -46,11 +46,16 @@ struct Heard {
 const MOST: usize = 1099511627776;
 
 // Hears samples as the options ask, tells each block and the whole, or says why that cannot be.
-pub fn hear(rt: &HostRuntime, source: &mut Source, o: Options, start: Start) -> Result<(), Fault>
+pub fn hear(
+    rt: &HostRuntime,
+    source: &mut Source,
+    options: Options,
+    start: Start,
+) -> Result<(), Fault>
     requires { (0 < start.rate) × (start.rate ≤ 192000) }
 {
-    let s = Setup::of(o, start.rate)?;
-    let n = s.plan.n;
+    let setup = Setup::of(options, start.rate)?;
+    let n = setup.plan.n;
     let mut stage = [0f32; 22056];
     let mut end = [0f32; 3358];
     let mut weights = [0f32; 6720];
@@ -61,27 +66,34 @@ pub fn hear(rt: &HostRuntime, source: &mut Source, o: Options, start: Start) -> 
     let mut sums = [0f64; 3361];
     window(&mut weights[..n]);
     let filled = fill_forward(
-        s.plan,
+        setup.plan,
         1,
-        &mut stage[..2 * s.stages],
-        &mut end[..2 * s.ends],
+        &mut stage[..2 * setup.stages],
+        &mut end[..2 * setup.ends],
     );
     filled.map_err(Fault::NoTwiddles)?;
     let progress = Progress::of(rt);
     let room = Room {
-        stage: &stage[..2 * s.stages],
-        end: &end[..2 * s.ends],
+        stage: &stage[..2 * setup.stages],
+        end: &end[..2 * setup.ends],
         weights: &weights[..n],
         bytes: &mut bytes[..2 * n],
         samples: &mut samples[..n],
         spectrum: &mut spectrum[..n + 2],
         scratch: &mut scratch[..6 * n],
-        sums: &mut sums[..s.plan.half + 1],
+        sums: &mut sums[..setup.plan.half + 1],
     };
-    match hear_blocks(rt, source, start.samples, &s, progress, room) {
+    match hear_blocks(rt, source, start.samples, &setup, progress, room) {
         Ok(heard) => {
             progress.wipe(rt);
-            finish(rt, source, start, &s, heard, &sums[..s.plan.half + 1])
+            finish(
+                rt,
+                source,
+                start,
+                &setup,
+                heard,
+                &sums[..setup.plan.half + 1],
+            )
         }
         Err(fault) => {
             tell(rt, fault);
@@ -96,12 +108,13 @@ fn hear_blocks(
     rt: &HostRuntime,
     source: &mut Source,
     whole: usize,
-    s: &Setup,
+    setup: &Setup,
     progress: Progress,
     room: Room<'_>,
 ) -> Result<Heard, Fault>
-    requires { (length room.bytes.now ≡ 2 * s.now.plan.n) × (length room.samples.now ≡ s.now.plan.n) }
+    requires { (length room.bytes.now ≡ 2 * setup.now.plan.n) × (length room.samples.now ≡ setup.now.plan.n) }
 {
+    // Apart, since the check does not cover two fields lent at once behind a reference.
     let Room {
         stage,
         end,
@@ -115,8 +128,8 @@ fn hear_blocks(
     let mut left = whole;
     let mut fanning: usize = 0;
     for blocks in 0..MOST {
-        let last = fill(source, &mut bytes[..2 * s.plan.n.min(left)])?;
-        if last < 2 * s.plan.n {
+        let last = fill(source, &mut bytes[..2 * setup.plan.n.min(left)])?;
+        if last < 2 * setup.plan.n {
             return Ok(Heard {
                 blocks,
                 fanning,
@@ -125,28 +138,28 @@ fn hear_blocks(
         }
         read_samples(bytes, 0, samples);
         let block = listen(
-            s.plan,
+            setup.plan,
             samples,
             weights,
             spectrum,
             scratch,
             stage,
             end,
-            s.band.lo,
-            s.band.hi,
-            s.threshold,
+            setup.band.lo,
+            setup.band.hi,
+            setup.threshold,
         );
         block.verdict.map_err(Fault::Unheard)?;
-        if s.plot {
+        if setup.plot {
             gather(spectrum, sums);
         }
-        let milliseconds = s.milliseconds(blocks);
-        print_line(rt, block_line(milliseconds, s.full, block))?;
+        let milliseconds = setup.milliseconds(blocks);
+        print_line(rt, block_line(milliseconds, setup.full, block))?;
         if blocks % 64 == 0 {
             progress.tell(rt, milliseconds / 1000);
         }
         fanning += fans(block.decision);
-        left -= s.plan.n.min(left);
+        left -= setup.plan.n.min(left);
     }
     Ok(Heard {
         blocks: MOST,
@@ -160,22 +173,29 @@ fn finish(
     rt: &HostRuntime,
     source: &mut Source,
     start: Start,
-    s: &Setup,
+    setup: &Setup,
     heard: Heard,
     sums: &[f64],
 ) -> Result<(), Fault>
     requires { length sums.now ≤ 3361 }
 {
     if heard.last > 1 {
-        print_line(rt, left_line(s.milliseconds(heard.blocks), heard.last / 2))?;
+        print_line(
+            rt,
+            left_line(setup.milliseconds(heard.blocks), heard.last / 2),
+        )?;
     }
     print_line(rt, whole_line(heard.blocks, heard.fanning))?;
-    if s.plot {
-        if let Err(fault) = draw(rt, s, sums, heard.blocks) {
+    if setup.plot {
+        if let Err(fault) = draw(rt, setup, sums, heard.blocks) {
             tell(rt, fault);
         }
     }
-    measured(source, start, 2 * s.samples_in(heard.blocks) + heard.last)
+    measured(
+        source,
+        start,
+        2 * setup.samples_in(heard.blocks) + heard.last,
+    )
 }
 
 // 1 for fanning, 0 for quiet.

@@ -39,14 +39,14 @@ const HERTZ: usize = 999999999;
 
 impl Setup {
     // What the options ask for, of samples at a rate, or why it cannot be.
-    pub fn of(o: Options, rate: usize) -> Result<Setup, Fault>
+    pub fn of(options: Options, rate: usize) -> Result<Setup, Fault>
         requires { (0 < rate) × (rate ≤ 192000) }
     {
-        let plan = planned(o.block)?;
-        let band = bins(o, rate, plan)?;
+        let plan = planned(options.block)?;
+        let band = bins(options, rate, plan)?;
         let full = step_of(full_scale(plan.n));
         let feigned = most_feigned(plan.count, plan.half, band.hi + 1 - band.lo);
-        let threshold = threshold(o.level, full, feigned)?;
+        let threshold = threshold(options.level, full, feigned)?;
         let stages = counts::stage_twiddles(plan).unwrap_or(0);
         let ends = counts::end_twiddles(plan).unwrap_or(0);
         if stages > 11028 || ends > 1679 {
@@ -60,7 +60,7 @@ impl Setup {
             band,
             full,
             threshold,
-            plot: o.plot,
+            plot: options.plot,
         })
     }
 
@@ -111,12 +111,12 @@ fn plan_of(entries: &[u8; 13], count: usize) -> Result<Record, Fault>
 }
 
 // The bins of the band that the options ask for.
-fn bins(o: Options, rate: usize, plan: Record) -> Result<Band, Fault>
+fn bins(options: Options, rate: usize, plan: Record) -> Result<Band, Fault>
     requires { (0 < rate) × (rate ≤ 192000) × (0 < plan.n) × (plan.n ≤ 6720) }
     ensures { IfOk result (λ b. (b.lo ≤ b.hi) × (b.hi ≤ plan.half)) }
 {
-    let bins = band(plan.n, rate, o.lo.min(HERTZ), o.hi.min(HERTZ));
-    if o.hi > rate / 2 || bins.lo > bins.hi || bins.hi > plan.half {
+    let bins = band(plan.n, rate, options.lo.min(HERTZ), options.hi.min(HERTZ));
+    if options.hi > rate / 2 || bins.lo > bins.hi || bins.hi > plan.half {
         return Err(Fault::NoBand {
             highest: rate / 2,
             lowest: rate / plan.n + 1,

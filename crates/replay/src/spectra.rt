@@ -35,7 +35,8 @@ struct Case {
     scratch: Option<usize>,
 }
 
-// Room for the packed twiddles and for the words of a transform.
+// Room for the packed twiddles and for the words of a transform. Each function takes it apart, since the check does not cover two fields lent at
+// once behind a reference.
 #[derive(Drop)]
 struct Room<'a> {
     packed: &'a mut [f32],

@@ -116,7 +116,7 @@ pub fn bare(rate: usize) -> Start {
     }
 }
 
-// Reads so many bytes, or all that there are, keeps none, and answers how many came.
+// Reads so many bytes, or all that there are, keeps none, and answers how many came. A read brings as many as it likes, so the loop counts them.
 pub fn skip(source: &mut Source, count: usize) -> Result<usize, Broken>
     ensures came { IfOk result (λ n. n ≤ count) }
     ensures broken { IfErr result (λ e. e.after ≤ count) }

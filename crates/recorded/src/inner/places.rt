@@ -22,24 +22,24 @@ const MANY: usize = 40000;
 struct Twiddle {
     stage: usize,
     start: usize,
-    m: usize,
-    r: usize,
-    i: usize,
-    k: usize,
+    iterations: usize,
+    radix: usize,
+    iteration: usize,
+    number: usize,
     at: usize,
 }
 
 impl Twiddle {
     // The first twiddle of a stage; its radix is 0 behind the last stage.
     fn first_of(plan: Record, stage: usize, start: usize) -> Twiddle {
-        let r = plan.radices.get(stage).map_or(0, |r| *r as usize);
+        let radix = plan.radices.get(stage).map_or(0, |r| *r as usize);
         Twiddle {
             stage,
             start,
-            m: plan.half.checked_div(r).unwrap_or(0),
-            r,
-            i: 0,
-            k: 1,
+            iterations: plan.half.checked_div(radix).unwrap_or(0),
+            radix,
+            iteration: 0,
+            number: 1,
             at: start,
         }
     }
@@ -47,14 +47,14 @@ impl Twiddle {
     // The twiddle after this one, by stages, iterations and numbers.
     fn next_of(self, plan: Record) -> Twiddle {
         let at = self.at.saturating_add(1);
-        let k = self.k.saturating_add(1);
-        let i = self.i.saturating_add(1);
-        if k < self.r {
-            Twiddle { k, at, ..self }
-        } else if i < self.m {
+        let number = self.number.saturating_add(1);
+        let iteration = self.iteration.saturating_add(1);
+        if number < self.radix {
+            Twiddle { number, at, ..self }
+        } else if iteration < self.iterations {
             Twiddle {
-                i,
-                k: 1,
+                iteration,
+                number: 1,
                 at,
                 ..self
             }
@@ -63,19 +63,19 @@ impl Twiddle {
         }
     }
 
-    // Where twiddle k of iteration i of the same stage stands by the library, if the stage has one.
-    fn place_of(self, width: usize, i: usize, k: usize) -> Option<usize> {
-        if self.m > 4096
-            || self.r > 8
-            || i >= self.m
-            || k == 0
-            || k >= self.r
+    // Where a twiddle of the same stage stands by the library, if the stage has one of that iteration and number.
+    fn place_of(self, width: usize, iteration: usize, number: usize) -> Option<usize> {
+        if self.iterations > 4096
+            || self.radix > 8
+            || iteration >= self.iterations
+            || number == 0
+            || number >= self.radix
             || width == 0
             || width > 4
         {
             return None;
         }
-        Some(place(self.m, self.r, width, i, k))
+        Some(place(self.iterations, self.radix, width, iteration, number))
     }
 
     // Where its words begin among so many that are packed for a width, if they are there.
@@ -84,7 +84,7 @@ impl Twiddle {
     {
         let at = self
             .start
-            .checked_add(self.place_of(width, self.i, self.k)?)?;
+            .checked_add(self.place_of(width, self.iteration, self.number)?)?;
         let x = at.checked_mul(2)?;
         (x < many && many - x > 1).then_some(x)
     }
@@ -115,7 +115,7 @@ impl Iterator for Twiddles {
 
     fn next(&mut self) -> Option<Twiddle> {
         let twiddle = self.next;
-        if self.left == 0 || twiddle.r == 0 {
+        if self.left == 0 || twiddle.radix == 0 {
             return None;
         }
         self.left -= 1;
@@ -132,7 +132,7 @@ pub fn layout_differs(line: [u8; 97]) -> bool {
     let width = number(&line[17..18], Base::Decimal);
     let mut sum: usize = 0;
     for t in Twiddles::of(plan) {
-        let place = width.and_then(|width| t.place_of(width, t.i, t.k));
+        let place = width.and_then(|width| t.place_of(width, t.iteration, t.number));
         sum = mixed(sum, place.unwrap_or(NOWHERE));
     }
     plan.n == 0

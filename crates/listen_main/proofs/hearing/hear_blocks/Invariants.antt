@@ -3,4 +3,4 @@ use Rattle.std.proofs.Common.{◌≡◌, ◌*◌, ◌≤◌, length}
 use Rattle.listen_main.proofs.hearing.hear_blocks.Given as goal
 
 abbrev pub invariant-loop-blocks : goal.invariant-loop-blocks
-invariant-loop-blocks l = (l.fanning ≤ l.blocks) × (length l.bytes ≡ 2 * l.s.plan.n) × (length l.samples ≡ l.s.plan.n)
+invariant-loop-blocks l = (l.fanning ≤ l.blocks) × (length l.bytes ≡ 2 * l.setup.plan.n) × (length l.samples ≡ l.setup.plan.n)
