@@ -2,7 +2,6 @@
 use Rattle.sequences.proofs.Basics.{◌≡◌, refl, sym, ap, subst, ℕ, zero, suc, ◌+◌, ◌-◌, ◌*◌, ◌^◌, ◌≤◌, ◌<◌, le_trans, le_of_eq, mul-le-mul_left}
 use Rattle.sequences.proofs.Basics.{mul-le-mul_right, arith, false, List, lit≤, length}
 use lib.Ieee.{Float, binary32}
-use Rattle.refusal.specs.Refusal.{Accepted}
 use Rattle.floats.specs.Complexes.{cell}
 use Rattle.power.specs.Power.{power_of, power_from, power_verdict, Powers}
 use Rattle.std.specs.Prelude.{Ok}

@@ -65,7 +65,8 @@ module _ {list : List ℕ} where
 
   -- a run that is refused whatever it is lent
   refuses : (h m w n k : ℕ) → (why : Refusal) → (plan_of list).half ≡ h → ((xs : List ℕ) (room : ℕ) → run_verdict (plan_of list) m w xs room ≡ Refused why)
-      → Gives n k (Refused why) → planned list ≡ Ok (accepted_plan list) → (a : Result Planned Refusal) → Plans list a → IsOkAnd a (λ made. Refuses h m w n k made.plan)
+      → Gives n k (Refused why) → planned list ≡ Ok (accepted_plan list) → (a : Result Planned Refusal) → Plans list a
+      → IsOkAnd a (λ made. Refuses h m w n k made.plan)
   refuses h m w n k why long v given good = answered (λ a. Refuses h m w n k a.plan) good
       (record {
         half = long;
@@ -130,7 +131,8 @@ unfolding planned plan_verdict first_bad first_that is_radix first_over product 
     lent_verdict twiddle_count twiddle_start end_count first_unfit fits forward_of forward_run inverse_of inverse_run prepared_of conjugated ended
     end_cell flat paired
     stage_of floats Turns.turn_of Turns.turn_at Turns.index_of power_verdict power_from add sub mul neg of_int of_bits
-case_spectrum = transforms {list = 4 ∷ []} (+ 1 ∷ + 2 ∷ + 3 ∷ + 4 ∷ []) (cx (+ 10) (+ 0) ∷ cx (- 2) (+ 2) ∷ cx (- 2) (+ 0) ∷ []) (+ 4 ∷ + 8 ∷ + 12 ∷ + 16 ∷ []) (+ 112)
+case_spectrum = transforms {list = 4 ∷ []} (+ 1 ∷ + 2 ∷ + 3 ∷ + 4 ∷ []) (cx (+ 10) (+ 0) ∷ cx (- 2) (+ 2) ∷ cx (- 2) (+ 0) ∷ [])
+    (+ 4 ∷ + 8 ∷ + 12 ∷ + 16 ∷ []) (+ 112)
     (λ W room w l. rw (w, l) refl) (λ W s. refl) (λ W room w l. rw (w, l) refl) (λ W s. refl) refl refl refl
 
 -- every case of the table

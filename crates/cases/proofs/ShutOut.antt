@@ -30,7 +30,8 @@ same_ok : {A : Type 0} {a b : A} (r : Result A Refusal) → Ok a ≡ r → r ≡
 same_ok r e f = let g = e ∙ f in cc
 
 -- one count of merges for every list
-pub one_merge_count : (c : ℕ) (a b : Planned) → Plans (2 ∷ 2 ∷ 2 ∷ 2 ∷ []) (Ok a) → Plans (4 ∷ 4 ∷ 4 ∷ 4 ∷ []) (Ok b) → a.merges.count ≡ c → b.merges.count ≡ c → ⊥
+pub one_merge_count : (c : ℕ) (a b : Planned) → Plans (2 ∷ 2 ∷ 2 ∷ 2 ∷ []) (Ok a) → Plans (4 ∷ 4 ∷ 4 ∷ 4 ∷ []) (Ok b) → a.merges.count ≡ c
+    → b.merges.count ≡ c → ⊥
 one_merge_count c a b p q e f =
     let one : a.merges.count ≡ 1 = ap (λ (r : Planned). r.merges.count) (same_ok _ p.answer merges_2222.1) ∙ merges_2222.2 in
     let two : b.merges.count ≡ 2 = ap (λ (r : Planned). r.merges.count) (same_ok _ q.answer merges_4444.1) ∙ merges_4444.2 in

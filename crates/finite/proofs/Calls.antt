@@ -1,9 +1,9 @@
 -- What an accepted call of `stage`, `forward` or `inverse` writes, and what `power` answers, has a size: the bound on the numbers lent is a parameter.
 -- A stage adds five binary digits at most, the steps at the ends three; where a plan has no stage forward does not write the Scratchpad. Assumes nothing.
-use Rattle.sequences.proofs.Basics.{◌≡◌, refl, sym, ap, ◌∙◌, subst, ℕ, zero, suc, ◌+◌, ◌-◌, ◌*◌, ◌/◌, ◌≤◌, ◌<◌, arith, List, ◌++◌, lit≤, length}
+use Rattle.sequences.proofs.Basics.{◌≡◌, refl, sym, ◌∙◌, subst, ℕ, zero, suc, ◌+◌, ◌-◌, ◌*◌, ◌/◌, ◌≤◌, ◌<◌, arith, List, ◌++◌, lit≤, length}
 use lib.Ieee.{Float, binary32, add}
 use Rattle.refusal.specs.Refusal.{Verdict}
-use Rattle.refusal.specs.Refusal.{Accepted, Refused}
+use Rattle.refusal.specs.Refusal.{Accepted}
 use Rattle.refusal.proofs.Rows.{accepted, settled}
 use Rattle.counts.specs.Counts.{radix}
 use Rattle.plan.specs.declared.Record.{Record}

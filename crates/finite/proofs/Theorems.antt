@@ -22,7 +22,6 @@ use Rattle.mixing.specs.Steps.{fft_steps}
 use Rattle.ends.proofs.Cells.{length_ended}
 use Rattle.std.specs.Prelude.{Ok}
 use Rattle.spectrum.proofs.Unique.{Forwards_one, Inverts_one}
-use Rattle.power.proofs.Unique.{Powers_one}
 use Rattle.spectrum.proofs.Verdicts.{forwardable, invertible}
 use Rattle.hear.specs.Hear.{Hears}
 use Rattle.hear.specs.declared.Heard.{Heard}

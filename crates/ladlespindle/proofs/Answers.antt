@@ -18,7 +18,8 @@ use Rattle.plan.proofs.Records.{accepted_good, planned_passes}
 use Rattle.counts.proofs.Counts.{record_accepted, record_refused}
 use Rattle.scaling.specs.declared.Scaled.{Scaled}
 use Rattle.scaling.specs.Scaling.{gain, accepted_scaling, scaled, Scales}
-use Rattle.ladlespindle.specs.Exports.{or_zero, count_for, no_record, no_plan, planned_or_none, no_scaling, scaling_as, crossed, planned_as, GivesPlanned, GivesNumber, GivesPlace, GivesAcceptance, GivesScaling}
+use Rattle.ladlespindle.specs.Exports.{or_zero, count_for, no_record, no_plan, planned_or_none, no_scaling, scaling_as}
+use Rattle.ladlespindle.specs.Exports.{crossed, planned_as, GivesPlanned, GivesNumber, GivesPlace, GivesAcceptance, GivesScaling}
 use Rattle.ladlespindle.specs.declared.Scaling.{Scaling}
 
 -- the record of a refused list is one that planning does not give

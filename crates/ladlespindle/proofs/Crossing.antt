@@ -6,7 +6,7 @@ use Rattle.refusal.proofs.Rows.{granted_ok, granted_err}
 use Rattle.refusal.specs.Refusal.{number_of, place_of, number_in, place_in, left, Settles}
 use Rattle.refusal.specs.declared.Refusal.{Refusal}
 use Rattle.refusal.specs.Refusal.{Verdict}
-use Rattle.refusal.specs.Refusal.{Accepted, Refused}
+use Rattle.refusal.specs.Refusal.{Accepted}
 use Rattle.counts.specs.Counts.{result_in, buffer_number}
 use Rattle.plan.specs.declared.Record.{Record}
 use Rattle.schedule.specs.Buffers.{Two}

@@ -1,6 +1,7 @@
 -- A lane with its radix ρ written out does what a stage of radix r does, where r is ρ.
 -- Assumes nothing.
-use Rattle.sequences.proofs.Basics.{◌≡◌, ap, ◌∙◌, length, ℕ, ◌+◌, ◌-◌, ◌*◌, ◌≤◌, ◌<◌, mul-le-mul_right, suc-mul, arith, false, List, ℕ_discrete, eq-eqb, ne_eqb, get_or}
+use Rattle.sequences.proofs.Basics.{◌≡◌, ap, ◌∙◌, length, ℕ, ◌+◌, ◌-◌, ◌*◌, ◌≤◌}
+use Rattle.sequences.proofs.Basics.{◌<◌, mul-le-mul_right, suc-mul, arith, false, List, ℕ_discrete, eq-eqb, ne_eqb, get_or}
 use lib.Ieee.{Float}
 use Rattle.floats.specs.declared.complex.Complex.{Complex}
 use Rattle.floats.specs.Complexes.{blank, cell}
@@ -48,7 +49,8 @@ module _ (N i len j M r : ℕ) (src tw ra ia rb ib : List Float) (pairs : Pairs 
   mine : (lent : ℕ → ℕ → Complex) → Lent N i len r lent tw → (q : ℕ) → 0 < q → q < r → cell tw (slot N r j q) ≡ lent (i + j) q
   mine lent f q l lq = f j q lj l lq
 
-  step : (lent : ℕ → ℕ → Complex) → Lent N i len r lent tw → (c : List Complex) → 0 < ρ → {re₀ im₀ re im re' im' : List Float} → Does c re₀ im₀ re im → re' ≡ re → im' ≡ im
+  step : (lent : ℕ → ℕ → Complex) → Lent N i len r lent tw → (c : List Complex) → 0 < ρ → {re₀ im₀ re im re' im' : List Float} → Does c re₀ im₀ re im
+      → re' ≡ re → im' ≡ im
       → Held i j r (output_of false M r src lent) re₀ im₀ → Held i (j + 1) r (output_of false M r src lent) re' im'
   step lent f c some {re₀} {im₀} {re' = re'} {im'} w er ei = held_step i j r (output_of false M r src lent) re₀ im₀ re' im' few
       (rw (er, ei, e) (saved_as _ _ _ _ (output_of false M ρ src lent (i + j))

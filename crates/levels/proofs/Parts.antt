@@ -1,5 +1,6 @@
 -- The parts of a doubling rise, from above 0 to below a doubling; the first that is large enough. Assumes nothing.
-use Rattle.sequences.proofs.Basics.{◌≡◌, refl, sym, add-one, ℕ, zero, suc, ◌<◌, ◌≤◌, le_of_suc-le-suc, lt_of_not-le, arith, dec_le, dite, Bool, ◌&&◌, List, [], ◌∷◌, T, ltb, leb, ltb→lt}
+use Rattle.sequences.proofs.Basics.{◌≡◌, refl, sym, add-one, ℕ, zero, suc, ◌<◌, ◌≤◌, le_of_suc-le-suc, lt_of_not-le}
+use Rattle.sequences.proofs.Basics.{arith, dec_le, dite, Bool, ◌&&◌, List, [], ◌∷◌, T, ltb, leb, ltb→lt}
 use Rattle.sequences.proofs.Basics.{length, get_or, le-leb, lt-leb}
 use Rattle.sequences.specs.Lists.{first_that}
 use Rattle.sequences.proofs.First.{first_most}
@@ -98,5 +99,6 @@ pub part_found : (units : ℕ) (r : Option ℕ)
     → (unwrap_or r 128 ≡ part_at_least units) × (unwrap_or r 128 ≤ 128)
 unfolding part_at_least first_that parts
 part_found units r h =
-    let found = index_from_first (first_that (leb units)) (λ p. units ≤ p) (λ p. p < units) refl (λ x xs l. rw (le-leb units x l)) (λ x xs l. rw (lt-leb units x l, add-one)) parts r h in
+    let found = index_from_first (first_that (leb units)) (λ p. units ≤ p) (λ p. p < units) refl (λ x xs l. rw (le-leb units x l)) (λ x xs l. rw
+    (lt-leb units x l, add-one)) parts r h in
     (sym found, omega (arith, found, first_most (leb units) parts))

@@ -6,7 +6,6 @@ use Rattle.refusal.specs.declared.Refusal.TheVariants.{Empty, NoRadix, TooLarge,
 use Rattle.refusal.specs.Refusal.{Verdict}
 use Rattle.refusal.specs.Refusal.{Accepted}
 use Rattle.plan.specs.declared.Record.{Record}
-use Rattle.merging.specs.declared.Merges.{Merges}
 use Rattle.plan.specs.declared.Planned.{Planned}
 use Rattle.radices.specs.Lists.{product, first_bad, first_over, largest, padded, eq_list}
 use Rattle.halving.specs.Half.{half}

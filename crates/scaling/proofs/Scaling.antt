@@ -12,7 +12,6 @@ use Rattle.refusal.specs.Refusal.{Verdict}
 use Rattle.refusal.specs.Refusal.{Accepted, Refused}
 use Rattle.refusal.proofs.Rows.{accepted, refused_on, accepted_on}
 use Rattle.radices.specs.declared.Radices.{Radices}
-use Rattle.scaling.specs.declared.Scaled.{Scaled}
 use Rattle.radices.specs.Lists.{product, largest, is_radix, first_bad, first_over, listed}
 use Rattle.scaling.specs.Parts.{Scalable}
 use Rattle.std.specs.Prelude.{Ok, Err}

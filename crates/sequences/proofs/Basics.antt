@@ -21,15 +21,15 @@ pub use native.Mathlib.Decide.{dec_le, dec_lt, ℕ_discrete}
 pub use mathlib.Core.Bool.{Bool, beq as bool_beq, ◌&&◌, ◌||◌, cond, false, false≢true, not, true, true≢false}
 pub use mathlib.Core.Logic.{◌≢◌, ◌⊎◌, dite, inl, inr, ⊎_elim}
 pub use mathlib.Core.List.{List, [], ◌++◌, ◌∷◌, append_assoc, append-nil, map, map-append}
-pub use lib.Dec.{T, eqb, eqb_refl, eqb→eq, compare_is_eq, is_le, leb, leb→le, le→leb, lit<, lit≤, ltb, ltb→lt, nleb→lt, nltb→le}
+pub use lib.Dec.{T, eqb, eqb→eq, compare_is_eq, is_le, leb, leb→le, le→leb, lit<, lit≤, ltb, ltb→lt, nleb→lt, nltb→le}
 pub use lib.ListN.{get_or-append as get_or-append, get_or-eq_default as get_or-eq_default, drop, drop_of_length-le, get_or, get_or-replicate, length}
 pub use lib.ListN.{length-append, length-drop, length-replicate}
 pub use lib.ListN.{length-set, length-take, replicate, set, take, take-append-drop}
-pub use lib.Seq.{drop-append-add, drop-append-le, drop_at, drop-cons, drop-drop, ext_get_or, get_or-append-add, get_or-drop, get_or-set_other}
+pub use lib.Seq.{drop-append-le, drop_at, drop-cons, drop-drop, ext_get_or, get_or-append-add, get_or-drop, get_or-set_other}
 pub use lib.Seq.{get_or-set_same, get_or-take}
-pub use lib.Seq.{length_front, length-take-le, paste, paste-suc, paste-zero, set-append_left, set-append_seam, set_at, set_split, split_at, take_all}
+pub use lib.Seq.{length_front, length-take-le, paste, paste-suc, paste-zero, set-append_left, set_at, set_split, split_at, take_all}
 pub use lib.Seq.{take-append-le, take-append_seam, take_at, take-length, take-suc, take-suc-set, take-take}
 pub use lib.Pow.{pow-add, pow-lt, pow_mono, pow_pos}
-pub use lib.Arith.{digits_div, digits_lt, digits_mod, lt_of_le-ne, lt-one}
+pub use lib.Arith.{digits_div, digits_lt, digits_mod, lt-one}
 pub use borrow.Author.Tests.{eq-eqb, eqb-false, eqb-true, le-leb, le-ltb, leb-false, leb-true, lt-leb, lt-ltb, ltb-false, ltb-true, ne_eqb, not-false, not-true}
 pub use borrow.Author.Rules.{rules}

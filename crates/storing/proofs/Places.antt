@@ -27,7 +27,8 @@ pub held_from : (i len r : ℕ) (v : ℕ → ℕ → Complex) (re im : List Floa
 held_from i len r v re im j n l held t p lt lp = rw (add_assoc (16 * p) j t, add_assoc i j t) (held (j + t) p (omega arith) lp)
 
 -- the outputs of two, picked by the radix
-pub picked : (i n r : ℕ) (v : ℕ → ℕ → Complex) (a b o : Outputs) → (r < 7 → o ≡ a) × (7 ≤ r → o ≡ b) → Paired i n r v a.re a.im b.re b.im → Held i n r v o.re o.im
+pub picked : (i n r : ℕ) (v : ℕ → ℕ → Complex) (a b o : Outputs) → (r < 7 → o ≡ a)
+    × (7 ≤ r → o ≡ b) → Paired i n r v a.re a.im b.re b.im → Held i n r v o.re o.im
 picked i n r v a b o is held = pick (dec_le 7 r)
   where
     pick : Dec (7 ≤ r) → Held i n r v o.re o.im

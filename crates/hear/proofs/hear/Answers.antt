@@ -4,7 +4,8 @@ use Rattle.hear.proofs.Verdicts.{hear_forward, hear_room, hears_accepted, hears_
 use Rattle.hear.proofs.hear.Goals as goal
 
 pub forward-requires : goal.forward-requires
-forward-requires c = let a = c.args in hear_forward a.tables.plan a.tables.width a.tables.stage_twiddles.now a.tables.end_twiddles.now a.input.now a.lo a.hi a.threshold
+forward-requires c = let a = c.args in hear_forward a.tables.plan a.tables.width a.tables.stage_twiddles.now a.tables.end_twiddles.now a.input.now a.lo
+    a.hi a.threshold
     (a.output.now, a.scratch.now) _ c.lent_band.ensures c.in-Ok.is
 
 pub overflow_add-hi : goal.overflow_add-hi
@@ -33,5 +34,6 @@ returns-in-Ok c = let a = c.args in
     c.sum-power.ensures c.decide.ensures
 
 pub returns-in-Err : goal.returns-in-Err
-returns-in-Err c = let a = c.args in hears_refused a.tables.plan a.tables.width a.tables.stage_twiddles.now a.tables.end_twiddles.now a.input.now a.lo a.hi a.threshold
+returns-in-Err c = let a = c.args in hears_refused a.tables.plan a.tables.width a.tables.stage_twiddles.now a.tables.end_twiddles.now a.input.now a.lo a.hi
+    a.threshold
     (a.output.now, a.scratch.now) _ _ c.lent_band.ensures c.in-Err.is

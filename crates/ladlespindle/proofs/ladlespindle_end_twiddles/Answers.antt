@@ -6,4 +6,7 @@ use Rattle.ladlespindle.proofs.Answers.{count_or_zero}
 use Rattle.ladlespindle.proofs.ladlespindle_end_twiddles.Goals as goal
 
 pub returns : goal.returns
-returns c = record { answer = c.unwrap_or.ensures ∙ count_or_zero c.args.list.now (λ (p : Record). end_count p.n) c.made_of.result c.made_of.ensures c.end_twiddles.result c.end_twiddles.ensures.answer }
+returns c = record {
+  answer = c.unwrap_or.ensures ∙ count_or_zero c.args.list.now (λ
+      (p : Record). end_count p.n) c.made_of.result c.made_of.ensures c.end_twiddles.result c.end_twiddles.ensures.answer;
+}

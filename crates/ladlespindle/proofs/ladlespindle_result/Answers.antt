@@ -1,5 +1,5 @@
 -- `ladlespindle::ladlespindle_result` meets its contract. Assumes nothing.
-use Rattle.sequences.proofs.Basics.{sym, ◌∙◌}
+use Rattle.sequences.proofs.Basics.{◌∙◌}
 use Rattle.counts.specs.Counts.{result_in, buffer_number}
 use Rattle.plan.specs.declared.Record.{Record}
 use Rattle.ladlespindle.proofs.Answers.{count_ok, count_err}

@@ -9,5 +9,6 @@ returns-in-Ok c = let a = c.args in scale_made a.in_list.now a.out_list.now _ _ 
     c.scaling_as.ensures
 
 pub returns-in-Err : goal.returns-in-Err
-returns-in-Err c = let a = c.args in scale_refused a.in_list.now a.out_list.now _ _ _ _ (subst (Scales a.in_list.now a.out_list.now) c.in-Err.is c.scale.ensures)
+returns-in-Err c = let a = c.args in scale_refused a.in_list.now a.out_list.now _ _ _ _ (subst
+    (Scales a.in_list.now a.out_list.now) c.in-Err.is c.scale.ensures)
     c.number.ensures.answer c.place.ensures.answer c.scaling_as-in-Err.ensures

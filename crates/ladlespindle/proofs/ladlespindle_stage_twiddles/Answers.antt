@@ -5,4 +5,7 @@ use Rattle.ladlespindle.proofs.Answers.{count_or_zero}
 use Rattle.ladlespindle.proofs.ladlespindle_stage_twiddles.Goals as goal
 
 pub returns : goal.returns
-returns c = record { answer = c.unwrap_or.ensures ∙ count_or_zero c.args.list.now stage_twiddles c.made_of.result c.made_of.ensures c.stage_twiddles.result c.stage_twiddles.ensures.answer }
+returns c = record {
+  answer = c.unwrap_or.ensures ∙ count_or_zero c.args.list.now stage_twiddles c.made_of.result c.made_of.ensures c.stage_twiddles.result
+      c.stage_twiddles.ensures.answer;
+}

@@ -7,7 +7,8 @@ use Rattle.spectrum.proofs.inverse.Goals as goal
 
 pub inverse-requires : goal.inverse-requires
 unfolding of_bits
-inverse-requires c = let a = c.args in invertible a.tables.plan a.tables.width _ _ (length a.input.now) (length a.output.now) (length a.scratch.now) 48 a.input.now
+inverse-requires c = let a = c.args in invertible a.tables.plan a.tables.width _ _ (length a.input.now) (length a.output.now)
+    (length a.scratch.now) 48 a.input.now
     a.tables.stage_twiddles.now a.tables.end_twiddles.now _ c.is_bins-is_input.ensures refl
     (c.lent.ensures 48 refl) c.in_ok-lent.was
 

@@ -7,7 +7,8 @@ use Rattle.spectrum.proofs.Tables.lent.Goals as goal
 pub returns : goal.returns
 unfolding size_verdict number_verdict lent_verdict
 returns c = λ k e.
-    let a = c.args in let rows = size_rows a.self.plan a.self.width a.is_input a.is_output a.scratch (length a.self.stage_twiddles.now) (length a.self.end_twiddles.now) in
+    let a = c.args in let rows = size_rows a.self.plan a.self.width a.is_input a.is_output a.scratch (length a.self.stage_twiddles.now)
+    (length a.self.end_twiddles.now) in
     c.numbers.ensures k e
     ∙ sym (accepted_on rows (number_rows k a.input.now a.self.stage_twiddles.now a.self.end_twiddles.now)
     (sym c.sizes.ensures ∙ c.in_ok-sizes.was))
@@ -15,6 +16,8 @@ returns c = λ k e.
 pub returns-in_err-sizes : goal.returns-in_err-sizes
 unfolding size_verdict lent_verdict
 returns-in_err-sizes c = λ k e.
-    let a = c.args in let rows = size_rows a.self.plan a.self.width a.is_input a.is_output a.scratch (length a.self.stage_twiddles.now) (length a.self.end_twiddles.now) in
-    thrown _ _ c.from_residual.ensures.1 ∙ sym (refused_on rows (number_rows k a.input.now a.self.stage_twiddles.now a.self.end_twiddles.now) _ (sym c.sizes.ensures
+    let a = c.args in let rows = size_rows a.self.plan a.self.width a.is_input a.is_output a.scratch (length a.self.stage_twiddles.now)
+    (length a.self.end_twiddles.now) in
+    thrown _ _ c.from_residual.ensures.1 ∙ sym (refused_on rows (number_rows k a.input.now a.self.stage_twiddles.now a.self.end_twiddles.now) _
+    (sym c.sizes.ensures
     ∙ c.in_err-sizes.was))

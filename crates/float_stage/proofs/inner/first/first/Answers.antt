@@ -11,7 +11,11 @@ use Rattle.float_stage.proofs.inner.first.first.Goals.{in-2, in-3, in-4, in-5, i
 
 pub cells-requires-in_default : goal.cells-requires-in_default
 cells-requires-in_default c = let h = c.requires.0 in let r = c.args.r in (
-  sized_at 8 (other h (((((tt {0}, λ (e : r ≡ 2). omega arith), λ (e : r ≡ 3). omega arith), λ (e : r ≡ 4). omega arith), λ (e : r ≡ 5). omega arith), λ (e : r ≡ 7). omega arith)) h,
+  sized_at 8 (other h (
+    ((((tt {0}, λ (e : r ≡ 2). omega arith), λ (e : r ≡ 3). omega arith), λ (e : r ≡ 4). omega arith), λ (e : r ≡ 5). omega arith),
+    λ
+        (e : r ≡ 7). omega arith,
+  )) h,
   omega arith,
 )
 
@@ -25,7 +29,14 @@ spread-requires-in_default c = let r = c.args.r in (
   omega (
     arith,
     room_at c.args.m r c.loop-k.k (length c.args.dst.now) (omega arith) c.requires.2 8
-        (other c.requires.0 (((((tt {0}, λ (e : r ≡ 2). omega arith), λ (e : r ≡ 3). omega arith), λ (e : r ≡ 4). omega arith), λ (e : r ≡ 5). omega arith), λ (e : r ≡ 7). omega arith)),
+        (other c.requires.0 (
+          (
+            (((tt {0}, λ (e : r ≡ 2). omega arith), λ (e : r ≡ 3). omega arith), λ (e : r ≡ 4). omega arith),
+            λ
+                (e : r ≡ 5). omega arith,
+          ),
+          λ (e : r ≡ 7). omega arith,
+        )),
   ),
 )
 
@@ -40,8 +51,11 @@ loop-k-preserved c =
       | in-4 w ↦ arm 4 w.in-4.is w.cells-in-4.result w.outputs-in-4.result w.cells-in-4.ensures w.outputs-in-4.ensures _ w.spread-in-4.ensures w.dst-is
       | in-5 w ↦ arm 5 w.in-5.is w.cells-in-5.result w.outputs-in-5.result w.cells-in-5.ensures w.outputs-in-5.ensures _ w.spread-in-5.ensures w.dst-is
       | in-7 w ↦ arm 7 w.in-7.is w.cells-in-7.result w.outputs-in-7.result w.cells-in-7.ensures w.outputs-in-7.ensures _ w.spread-in-7.ensures w.dst-is
-      | in_default w ↦ arm 8 (other c.requires.0
-          (((((tt {0}, λ (e : r ≡ 2). omega arith), λ (e : r ≡ 3). omega arith), λ (e : r ≡ 4). omega arith), λ (e : r ≡ 5). omega arith), λ (e : r ≡ 7). omega arith))
+      | in_default w ↦ arm 8 (other c.requires.0 (
+        ((((tt {0}, λ (e : r ≡ 2). omega arith), λ (e : r ≡ 3). omega arith), λ (e : r ≡ 4). omega arith), λ (e : r ≡ 5). omega arith),
+        λ
+            (e : r ≡ 7). omega arith,
+      ))
           w.cells-in_default.result w.outputs-in_default.result w.cells-in_default.ensures w.outputs-in_default.ensures _ w.spread-in_default.ensures w.dst-is
     ] in
     λ lent done. first_step r l.k _ l.dst c.match-r.dst (w lent) (l.invariant lent done)

@@ -7,7 +7,8 @@ use Rattle.float_stage.proofs.inner.stage.by_fours.Given as goal
 
 abbrev pub invariant-loop-i : goal.invariant-loop-i
 invariant-loop-i l =
-    (l.i % 4 ≡ 0) × Round l.even l.end l.s l.r (output_of false l.m l.r l.src (lent_at l.m l.r 4 l.tw)) 0 l.low.re l.low.im l.high.re l.high.im l.initial.dst l.dst
+    (l.i % 4 ≡ 0) × Round l.even l.end l.s l.r (output_of false l.m l.r l.src (lent_at l.m l.r 4 l.tw)) 0 l.low.re l.low.im l.high.re l.high.im
+    l.initial.dst l.dst
     l.at.block l.at.col l.i
 
 abbrev pub decreases-loop-i : goal.decreases-loop-i

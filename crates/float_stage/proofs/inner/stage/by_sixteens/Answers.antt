@@ -63,7 +63,8 @@ store-at-requires c =
     let a = c.args in
     let n = c.min-len in
     let fits : c.loop-i.i + n.result ≤ a.m = omega arith in
-    let even : Even a.even n.result = even_batch a.even c.loop-i.i a.m a.s a.r _ c.requires.5 c.requires.3 c.loop-i.invariant.2.even (λ x. omega arith) (λ x. omega arith) in
+    let even : Even a.even n.result = even_batch a.even c.loop-i.i a.m a.s a.r _ c.requires.5 c.requires.3 c.loop-i.invariant.2.even (λ x. omega arith)
+    (λ x. omega arith) in
     round_asks n.result c.loop-i.invariant.2 even c.lanes.ensures.0 c.requires.3 c.requires.4 c.requires.5 fits (omega arith) (omega arith)
 
 pub overflow_add-i : goal.overflow_add-i
@@ -86,7 +87,8 @@ loop-i-preserved c =
     let a = c.args in
     let n = c.min-len in
     let fits : c.loop-i.i + n.result ≤ a.m = omega arith in
-    let even : Even a.even n.result = even_batch a.even c.loop-i.i a.m a.s a.r _ c.requires.5 c.requires.3 c.loop-i.invariant.2.even (λ x. omega arith) (λ x. omega arith) in
+    let even : Even a.even n.result = even_batch a.even c.loop-i.i a.m a.s a.r _ c.requires.5 c.requires.3 c.loop-i.invariant.2.even (λ x. omega arith)
+    (λ x. omega arith) in
     let part =
     lent_part c.laid_out-layout.result c.loop-i.i n.result a.m a.r a.w a.tw.now _ _ c.first_word.ensures c.laid_out-layout.ensures.0
     c.loop-i.invariant.1 fits (omega arith) c.requires.0.few c.requires.1.lent (c.fetch.auto.t ∙ c.loop-i.invariant.0) c.lent.ensures c.fetch.ensures in (

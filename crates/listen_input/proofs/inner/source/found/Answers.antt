@@ -1,5 +1,4 @@
 -- `found` is safe: a file with a walk has the 12 bytes of its mark.
-use Rattle.std.proofs.Common.{rules}
 use Rattle.listen_input.proofs.Walking.{has_mark}
 use Rattle.listen_input.proofs.inner.source.found.Goals as goal
 

@@ -9,7 +9,8 @@ returns-then-not-is_ascii_digit c = sym (c.loop-b.invariant.2 ∙ digits_none _ 
 pub loop-b-preserved : goal.loop-b-preserved
 loop-b-preserved c = (
   search rules,
-  rw add-one (let e = digit_few (get_or c.args.word.now c.loop-b.b-index 0) (sym c.is_ascii_digit.ensures.value ∙ c.if-not-is_ascii_digit.false) in omega arith),
+  rw add-one (let e = digit_few (get_or c.args.word.now c.loop-b.b-index 0) (sym c.is_ascii_digit.ensures.value
+      ∙ c.if-not-is_ascii_digit.false) in omega arith),
   c.loop-b.invariant.2 ∙ digits_next _ _ _ c.loop-b-test.true (search rules),
 )
 

@@ -11,4 +11,5 @@ pub returns : goal.returns
 unfolding first_large
 returns c = let p = λ (x : ℕ). not (ltb x c.args.m) in
     found_position p c.args.list.now c.position.result
-    (position_from_yields_List p _ _ c.position.result c.position.ensures.ran (YieldsList-from_slice c.args.list.now c.iter.ensures.rest) (λ x b q k. search (rules, tests)))
+    (position_from_yields_List p _ _ c.position.result c.position.ensures.ran (YieldsList-from_slice c.args.list.now c.iter.ensures.rest)
+    (λ x b q k. search (rules, tests)))

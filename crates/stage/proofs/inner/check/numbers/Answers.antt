@@ -11,7 +11,8 @@ returns-in-Some c = let large = c.in-Some.ensures 48 refl in search (deciding, l
 
 pub returns-in-Some-first_unfit : goal.returns-in-Some-first_unfit
 unfolding of_bits number_verdict
-returns-in-Some-first_unfit c = let none = c.in_default.ensures 48 refl in let wide = c.in-Some-first_unfit.ensures 0 refl in search (deciding, none, wide.0, wide.1)
+returns-in-Some-first_unfit c = let none = c.in_default.ensures 48 refl in let wide = c.in-Some-first_unfit.ensures 0 refl in search
+    (deciding, none, wide.0, wide.1)
 
 pub returns : goal.returns
 unfolding of_bits number_verdict

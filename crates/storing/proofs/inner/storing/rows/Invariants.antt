@@ -9,5 +9,6 @@ use Rattle.storing.proofs.inner.storing.rows.Given as goal
 
 abbrev pub invariant-loop-p : goal.invariant-loop-p
 invariant-loop-p l = (length l.dst ≡ length l.initial.dst)
-    × ((v : ℕ → ℕ → Complex) → ((t q : ℕ) → t < l.n → q < l.r → lane l.from.re l.from.im (16 * q + l.j + t) ≡ v (l.i + t) q) → Done l.s l.r v l.initial.dst l.i →
+    × ((v : ℕ → ℕ → Complex) → ((t q : ℕ) → t < l.n → q < l.r → lane l.from.re l.from.im (16 * q + l.j + t) ≡ v (l.i + t) q)
+    → Done l.s l.r v l.initial.dst l.i →
     Rowed l.s l.r v (cell l.dst) l.i l.n l.p)

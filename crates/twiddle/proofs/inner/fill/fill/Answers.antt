@@ -22,5 +22,6 @@ returns c = let a = c.args in let told = c.lent.ensures in let accepted = c.in_o
     c.ends.ensures
 
 pub returns-in_err-lent : goal.returns-in_err-lent
-returns-in_err-lent c = let a = c.args in rw (thrown _ _ c.from_residual.ensures.1) (fill_refused a.direction a.plan a.width (a.stage_twiddles.now, a.end_twiddles.now) _ c.lent.ensures _
+returns-in_err-lent c = let a = c.args in rw (thrown _ _ c.from_residual.ensures.1) (fill_refused a.direction a.plan a.width
+    (a.stage_twiddles.now, a.end_twiddles.now) _ c.lent.ensures _
     c.in_err-lent.was)

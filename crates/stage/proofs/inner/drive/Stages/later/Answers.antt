@@ -58,5 +58,6 @@ loop-k-preserved c = let a = c.args in let l = c.loop-k in let j = c.if-k-eq0 in
     )
 
 pub returns : goal.returns
-returns c = let a = c.args in let l = c.loop-k in gone_all (stage_in a.self.plan a.self.width a.self.twiddles.now) a.scratch.now l.«data» l.scratch l.k a.self.plan.count
+returns c = let a = c.args in let l = c.loop-k in gone_all (stage_in a.self.plan a.self.width a.self.twiddles.now) a.scratch.now l.«data» l.scratch l.k
+    a.self.plan.count
     (omega arith) (omega (arith, c.requires.1, c.if-count-eq1.false)) l.invariant.3

@@ -26,7 +26,8 @@ pub slice_bounds-work-end : goal.slice_bounds-work-end
 slice_bounds-work-end c = omega (arith, c.requires.starts, c.args.self.lent, c.twiddle_count.ensures, own_within c.args.self.plan c.args.k c.requires.known)
 
 pub work-requires : goal.work-requires
-work-requires c = let a = c.args in step_workable a.self.plan a.k a.self.width _ _ a.start a.self.twiddles.now _ a.self.planned a.self.packed a.self.lent c.requires
+work-requires c = let a = c.args in step_workable a.self.plan a.k a.self.width _ _ a.start a.self.twiddles.now _ a.self.planned a.self.packed a.self.lent
+    c.requires
     (own_slice a.self.plan a.k a.self.twiddles.now a.start _ c.requires.starts c.twiddle_count.ensures)
 
 pub returns : goal.returns
