@@ -1,5 +1,5 @@
 -- What the report takes from planning, and the words of its radices. Assumes nothing.
-use Rattle.sequences.proofs.Basics.{◌≡◌, refl, sym, ap, ◌∙◌, ℕ, min, ◌≤◌, arith, dec_le, true, dite, List, length, take, take-length, take_all, zero, suc, ◌<◌}
+use Rattle.sequences.proofs.Basics.{◌≡◌, refl, sym, ap, ◌∙◌, ℕ, min, ◌≤◌, arith, dec_le, true, dite, List, length, take, take-length, take_all}
 use Rattle.sequences.proofs.Basics.{[], ◌∷◌, map}
 use Rattle.refusal.specs.declared.Verdict.{Verdict}
 use Rattle.refusal.specs.declared.Verdict.TheVariants.{Accepted, Refused}

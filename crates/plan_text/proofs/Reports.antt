@@ -1,5 +1,5 @@
 -- What follows from the promise of `report`: its used bytes, and worked examples. Assumes nothing.
-use Rattle.sequences.proofs.Basics.{◌≡◌, refl, sym, ap, ◌∙◌, ℕ, ◌-◌, ◌≤◌, arith, List, [], length, take, replicate, length-append, take-append_seam}
+use Rattle.sequences.proofs.Basics.{◌≡◌, refl, ap, ℕ, ◌≤◌, arith, List, [], length}
 use Rattle.radices.specs.Lists.{is_radix, product, first_bad, first_over, index_of, count_of, padded}
 use Rattle.sequences.specs.Lists.{first_that}
 use Rattle.halving.specs.Half.{halving, halved, half}

@@ -1,5 +1,5 @@
 -- `plan_lines` adds the seven lines in turn; they fit. Assumes nothing.
-use Rattle.sequences.proofs.Basics.{ap, ◌∙◌, ℕ, arith, List, [], ◌∷◌, ◌++◌, lit≤, take}
+use Rattle.sequences.proofs.Basics.{ap, ◌∙◌, ℕ, List, [], ◌∷◌, ◌++◌, lit≤, take}
 use Rattle.counts.specs.Counts.{twiddle_start, end_count, result_in}
 use Rattle.counts.specs.declared.Buffer.{Buffer}
 use Rattle.text.specs.Lines.{decimal, line}
