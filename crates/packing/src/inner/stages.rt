@@ -1,5 +1,5 @@
 // The twiddles of the stages, packed for a width.
-ghost use Rattle.std.specs.Prelude.{◌≡◌, ◌+◌, ◌-◌, ◌*◌, ◌<◌, length};
+ghost use Rattle.std.specs.Prelude.{◌≡◌, ◌+◌, ◌-◌, ◌*◌, length};
 ghost use Rattle.schedule.specs.Plans.{in_use};
 ghost use Rattle.packing.specs.Places.{packed};
 ghost use Rattle.packing.specs.Twiddles.{twiddle, stages_words};

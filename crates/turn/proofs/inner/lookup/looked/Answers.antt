@@ -1,6 +1,6 @@
 -- `turn::inner::lookup::looked` meets its contract. Assumes nothing.
-use Rattle.sequences.proofs.Basics.{sym, ◌∙◌, arith}
-use Rattle.turn.proofs.Index.{housed_pos, index_below}
+use Rattle.sequences.proofs.Basics.{sym, ◌∙◌}
+use Rattle.turn.proofs.Index.{index_below}
 use Rattle.turn.proofs.inner.lookup.looked.Goals as goal
 
 pub returns : goal.returns
