@@ -1,6 +1,6 @@
 -- The first stage: a kernel with its radix ρ written out does what a stage of radix r does, where r is ρ, and its outputs stand side by side.
 -- Assumes nothing.
-use Rattle.sequences.proofs.Basics.{◌≡◌, refl, sym, ℕ, ◌+◌, ◌-◌, ◌*◌, ◌≤◌, ◌<◌, div-one, mod-one, mul-le-mul_right, suc-mul, arith, true}
+use Rattle.sequences.proofs.Basics.{◌≡◌, refl, sym, ℕ, ◌+◌, ◌*◌, ◌≤◌, ◌<◌, div-one, mod-one, mul-le-mul_right, suc-mul, arith, true}
 use Rattle.sequences.proofs.Basics.{List, get_or}
 use lib.Ieee.{Float}
 use Rattle.schedule.specs.Stage.{index}

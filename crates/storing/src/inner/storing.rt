@@ -90,21 +90,23 @@ pub struct Place {
     pub col: usize,
 }
 
-// The place n iterations on, of the same block or at the start of the next.
-pub fn onward(at: Place, n: usize, s: usize, r: usize) -> Place
-    requires { (at.col + n ≤ s) × (at.block + s * r < 2 ^ 64) }
-    ensures { (at.col + n < s → (result.block ≡ at.block) × (result.col ≡ at.col + n)) × (at.col + n ≡ s → (result.block ≡ at.block + s * r) × (result.col ≡ 0)) }
-{
-    let col = at.col + n;
-    if col == s {
-        return Place {
-            block: at.block + s * r,
-            col: 0,
-        };
-    }
-    Place {
-        block: at.block,
-        col,
+impl Place {
+    // The place n iterations on, of the same block or at the start of the next.
+    pub fn onward(self, n: usize, s: usize, r: usize) -> Place
+        requires { (self.col + n ≤ s) × (self.block + s * r < 2 ^ 64) }
+        ensures { (self.col + n < s → (result.block ≡ self.block) × (result.col ≡ self.col + n)) × (self.col + n ≡ s → (result.block ≡ self.block + s * r) × (result.col ≡ 0)) }
+    {
+        let col = self.col + n;
+        if col == s {
+            return Place {
+                block: self.block + s * r,
+                col: 0,
+            };
+        }
+        Place {
+            block: self.block,
+            col,
+        }
     }
 }
 
@@ -143,7 +145,7 @@ pub fn step<'a>(
     let n = batch(even, s - at.col, len - j);
     rows(from, j, dst, at.block + at.col, i + j, n, s, r);
     Next {
-        at: onward(at, n, s, r),
+        at: at.onward(n, s, r),
         j: j + n,
     }
 }

@@ -1,5 +1,5 @@
 -- `float_stage::inner::lent::fetch` meets its contract. Assumes nothing.
-use Rattle.sequences.proofs.Basics.{◌≡◌, ◌-◌, length}
+use Rattle.sequences.proofs.Basics.{◌≡◌, length}
 use Rattle.kernel.specs.Floats.{lent_at}
 use Rattle.lanes.specs.Parts.{Fetched}
 use Rattle.float_stage.proofs.inner.lent.fetch.Given as goal

@@ -1,5 +1,5 @@
 -- `storing::inner::storing::rows` meets its contract. Assumes nothing.
-use Rattle.sequences.proofs.Basics.{refl, ap, ◌∙◌, ℕ, ◌+◌, ◌-◌, ◌*◌, ◌<◌, arith, length}
+use Rattle.sequences.proofs.Basics.{refl, ap, ◌∙◌, ℕ, ◌+◌, ◌*◌, ◌<◌, arith, length}
 use Rattle.schedule.specs.Stage.{index}
 use Rattle.schedule.proofs.Fill.{wrote_as, rowed_none, rowed_step}
 use Rattle.floats.specs.Complexes.{cell}

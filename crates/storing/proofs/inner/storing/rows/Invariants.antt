@@ -1,5 +1,5 @@
 -- `storing::inner::storing::rows` meets its contract. Assumes nothing.
-use Rattle.sequences.proofs.Basics.{◌≡◌, ℕ, ◌+◌, ◌-◌, ◌*◌, ◌<◌, length}
+use Rattle.sequences.proofs.Basics.{◌≡◌, ℕ, ◌+◌, ◌*◌, ◌<◌, length}
 use Rattle.schedule.proofs.Fill.{Rowed}
 use Rattle.floats.specs.Complexes.{cell}
 use Rattle.floats.specs.declared.complex.Complex.{Complex}

@@ -1,5 +1,5 @@
 -- `storing::inner::storing::store` meets its contract. Assumes nothing.
-use Rattle.sequences.proofs.Basics.{◌-◌, arith}
+use Rattle.sequences.proofs.Basics.{arith}
 use Rattle.storing.proofs.Batches.{storing_none, storing_asks, storing_next, storing_all}
 use Rattle.storing.proofs.inner.storing.store.Goals as goal
 

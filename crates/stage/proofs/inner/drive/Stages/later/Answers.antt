@@ -1,5 +1,5 @@
 -- `stage::inner::drive::Stages::later` meets its contract. Assumes nothing.
-use Rattle.sequences.proofs.Basics.{◌≡◌, ◌<◌, ap, ◌∙◌, ◌+◌, ◌-◌, ◌*◌, le_of_lt, arith, length}
+use Rattle.sequences.proofs.Basics.{◌≡◌, ◌<◌, ap, ◌∙◌, ◌+◌, ◌*◌, le_of_lt, arith, length}
 use Rattle.counts.proofs.Counts.{count_small, start_next, start_none, start_few}
 use Rattle.stage.specs.Runs.{stage_in}
 use Rattle.stage.proofs.Runs.{length_made, Going, going_first, going_even, going_odd, gone_one, gone_all}

@@ -1,5 +1,5 @@
 -- `stage::inner::drive::Stages::later` meets its contract. Assumes nothing.
-use Rattle.sequences.proofs.Basics.{◌≡◌, ◌-◌, ◌*◌, length}
+use Rattle.sequences.proofs.Basics.{◌≡◌, ◌*◌, length}
 use Rattle.counts.specs.Counts.{twiddle_start}
 use Rattle.stage.specs.Runs.{stage_in}
 use Rattle.stage.proofs.Runs.{Going}

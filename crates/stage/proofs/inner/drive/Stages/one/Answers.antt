@@ -1,5 +1,5 @@
 -- `stage::inner::drive::Stages::one` meets its contract. Assumes nothing.
-use Rattle.sequences.proofs.Basics.{◌-◌, le_of_lt, arith}
+use Rattle.sequences.proofs.Basics.{le_of_lt, arith}
 use Rattle.counts.proofs.Counts.{count_small, start_few}
 use Rattle.stage.proofs.Runs.{own_within, own_slice, step_workable, step_made}
 use Rattle.stage.proofs.inner.drive.Stages.one.Goals as goal
