@@ -15,14 +15,14 @@ use listening::Block;
 use listening::inner::block::{gather, listen};
 use listening::inner::window::window;
 use pcm::inner::samples::read_samples;
+use spectrum::Tables;
 use twiddle::fill_forward;
 
-// The twiddles of a plan and the window, and room for the bytes of a block, its samples, its spectrum, what is left of a transform, and the power
+// What a transform goes by and the window, and room for the bytes of a block, its samples, its spectrum, what is left of a transform, and the power
 // of the bins, summed.
 #[derive(Drop)]
 struct Room<'a> {
-    stage: &'a [f32],
-    end: &'a [f32],
+    tables: Tables<'a>,
     weights: &'a [f32],
     bytes: &'a mut [u8],
     samples: &'a mut [f32],
@@ -74,8 +74,12 @@ pub fn hear(
     filled.map_err(Fault::NoTwiddles)?;
     let progress = Progress::of(rt);
     let room = Room {
-        stage: &stage[..2 * setup.stages],
-        end: &end[..2 * setup.ends],
+        tables: Tables {
+            plan: setup.plan,
+            width: 1,
+            stage_twiddles: &stage[..2 * setup.stages],
+            end_twiddles: &end[..2 * setup.ends],
+        },
         weights: &weights[..n],
         bytes: &mut bytes[..2 * n],
         samples: &mut samples[..n],
@@ -116,8 +120,7 @@ fn hear_blocks(
 {
     // Apart, since the check does not cover two fields lent at once behind a reference.
     let Room {
-        stage,
-        end,
+        tables,
         weights,
         bytes,
         samples,
@@ -138,15 +141,12 @@ fn hear_blocks(
         }
         read_samples(bytes, 0, samples);
         let block = listen(
-            setup.plan,
+            tables,
             samples,
             weights,
             spectrum,
             scratch,
-            stage,
-            end,
-            setup.band.lo,
-            setup.band.hi,
+            setup.band,
             setup.threshold,
         );
         block.verdict.map_err(Fault::Unheard)?;

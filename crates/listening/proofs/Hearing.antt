@@ -21,28 +21,28 @@ use Rattle.listening.specs.declared.Block.{Block}
 abbrev block : Float → Heard → Block
 block x h = record { verdict = Accepted; band = h.power; outside = x; decision = h.decision }
 
-module _ {p : Record} {stage end : List Float} {lo hi : ℕ} {threshold : Float} {before : Slices} {ys : List Float} {r : Heard} {after : Slices}
-    (call : Hears p 1 stage end ys lo hi threshold before r after) where
+module _ {p : Record} {W : ℕ} {stage end : List Float} {lo hi : ℕ} {threshold : Float} {before : Slices} {ys : List Float} {r : Heard} {after : Slices}
+    (call : Hears p W stage end ys lo hi threshold before r after) where
   abbrev told : Verdict
-  told = hear_verdict p 1 ys (length before.0) (length before.1) stage end lo hi
+  told = hear_verdict p W ys (length before.0) (length before.1) stage end lo hi
 
   abbrev made : Slices
-  made = forward_of p 1 stage end ys before.1
+  made = forward_of p W stage end ys before.1
 
   is_told : r.verdict ≡ told
-  is_told = verdict_told p 1 stage end ys lo hi threshold before r after call
+  is_told = verdict_told p W stage end ys lo hi threshold before r after call
 
   -- the band is in order and the spectrum has its words
   pub block_room : r.verdict ≡ Accepted → (lo ≤ hi) × (hi ≤ p.half) × (2 * (p.half + 1) ≡ length before.0) × (length before.0 ≤ 8194)
   block_room e =
-      let b = hear_told p 1 stage end ys lo hi threshold before r.verdict is_told e in
-      let f = hear_forward p 1 stage end ys lo hi threshold before r.verdict is_told e in
+      let b = hear_told p W stage end ys lo hi threshold before r.verdict is_told e in
+      let f = hear_forward p W stage end ys lo hi threshold before r.verdict is_told e in
       (b.1, b.2, sym f.bins, omega (arith, f.bins, plan_half p f.planned))
 
   module _ {xs weights : List Float} (w : ys ≡ weighed xs weights) where
     -- an accepted block answers what was heard and the power outside the band
     pub listens_accepted : {x : Float} → r.verdict ≡ Accepted → x ≡ besides after.0 lo hi p.half
-        → Listens p xs weights stage end lo hi threshold before (block x r) ys after
+        → Listens p W xs weights stage end lo hi threshold before (block x r) ys after
     listens_accepted e ex =
         let accepted : told ≡ Accepted = sym is_told ∙ e in
         record {
@@ -56,7 +56,7 @@ module _ {p : Record} {stage end : List Float} {lo hi : ℕ} {threshold : Float}
 
     -- a refused one answers +0 twice and fanning
     pub listens_refused : {why : Refusal} → r.verdict ≡ Refused why
-        → Listens p xs weights stage end lo hi threshold before (record { verdict = Refused why; band = +0; outside = +0; decision = Fanning }) ys after
+        → Listens p W xs weights stage end lo hi threshold before (record { verdict = Refused why; band = +0; outside = +0; decision = Fanning }) ys after
     listens_refused e =
         record {
           samples = w;

@@ -10,16 +10,16 @@ use Rattle.hear.specs.Hear.{hear_verdict}
 use Rattle.listening.specs.Block.{block_of, Listens}
 use Rattle.listening.specs.declared.Block.{Block}
 
-module _ (p : Record) (xs weights stage end : List Float) (lo hi : ℕ) (threshold : Float) (before : Slices) where
+module _ (p : Record) (W : ℕ) (xs weights stage end : List Float) (lo hi : ℕ) (threshold : Float) (before : Slices) where
   -- the verdict on samples that are weighed, and the slices of their spectrum
   abbrev told : List Float → Verdict
-  told ys = hear_verdict p 1 ys (length before.0) (length before.1) stage end lo hi
+  told ys = hear_verdict p W ys (length before.0) (length before.1) stage end lo hi
 
   abbrev made : List Float → Slices
-  made ys = forward_of p 1 stage end ys before.1
+  made ys = forward_of p W stage end ys before.1
 
-  pub Listens_one : {r s : Block} {ys zs : List Float} {x y : Slices} → Listens p xs weights stage end lo hi threshold before r ys x
-      → Listens p xs weights stage end lo hi threshold before s zs y
+  pub Listens_one : {r s : Block} {ys zs : List Float} {x y : Slices} → Listens p W xs weights stage end lo hi threshold before r ys x
+      → Listens p W xs weights stage end lo hi threshold before s zs y
       → (r ≡ s) × (ys ≡ zs) × (x ≡ y)
   Listens_one a b =
       let same = agree a.samples b.samples in (

@@ -50,9 +50,9 @@ block_of Accepted sp lo hi half threshold =
 block_of (Refused why) sp lo hi half threshold = record { verdict = Refused why; band = +0; outside = +0; decision = Fanning }
 
 -- what `listen` promises of its answer r, of the samples and of spectrum and scratch: what `hear` does of the weighed samples, with the power outside the band
-pub record Listens (p : Record) (xs weights stage end : List Float) (lo hi : ℕ) (threshold : Float) (before : Slices) (r : Block) (ys : List Float)
+pub record Listens (p : Record) (W : ℕ) (xs weights stage end : List Float) (lo hi : ℕ) (threshold : Float) (before : Slices) (r : Block) (ys : List Float)
     (after : Slices) : Type 0 where
   pub samples : ys ≡ weighed xs weights
-  pub answer : r ≡ block_of (hear_verdict p 1 ys (length before.0) (length before.1) stage end lo hi) (forward_of p 1 stage end ys before.1).0 lo hi
+  pub answer : r ≡ block_of (hear_verdict p W ys (length before.0) (length before.1) stage end lo hi) (forward_of p W stage end ys before.1).0 lo hi
       p.half threshold
-  pub cells : after ≡ left (hear_verdict p 1 ys (length before.0) (length before.1) stage end lo hi) (forward_of p 1 stage end ys before.1) before
+  pub cells : after ≡ left (hear_verdict p W ys (length before.0) (length before.1) stage end lo hi) (forward_of p W stage end ys before.1) before

@@ -2,10 +2,9 @@
 ghost use Rattle.std.specs.Prelude.{◌≡◌, ◌+◌, ◌*◌, ◌≤◌, length};
 ghost use Rattle.listening.specs.Block.{Listens, full_scale, besides};
 
-use crate::Block;
 use crate::inner::window::weigh;
+use crate::{Band, Block};
 use hear::{Decision, hear};
-use plan::Record;
 use power::inner::sum::sum;
 use spectrum::Tables;
 
@@ -20,32 +19,25 @@ pub fn full_scale(n: usize) -> f32
 
 // Hears a block: its samples are weighed in place; the power in the band and outside it, bin 0 apart, and whether the bees fan.
 pub fn listen(
-    plan: Record,
+    tables: Tables,
     samples: &mut [f32],
     weights: &[f32],
     spectrum: &mut [f32],
     scratch: &mut [f32],
-    stage: &[f32],
-    end: &[f32],
-    lo: usize,
-    hi: usize,
+    band: Band,
     threshold: f32,
 ) -> Block
-    ensures { Listens plan samples.old weights.now stage.now end.now lo hi threshold (spectrum.old, scratch.old) result samples.new (spectrum.new, scratch.new) }
+    ensures { Listens tables.entry.plan tables.entry.width samples.old weights.now tables.entry.stage_twiddles.now tables.entry.end_twiddles.now band.lo band.hi threshold (spectrum.old, scratch.old) result samples.new (spectrum.new, scratch.new) }
 {
     weigh(samples, weights);
-    let tables = Tables {
-        plan,
-        width: 1,
-        stage_twiddles: stage,
-        end_twiddles: end,
-    };
-    let heard = hear(tables, samples, spectrum, scratch, lo, hi, threshold);
+    let heard = hear(
+        tables, samples, spectrum, scratch, band.lo, band.hi, threshold,
+    );
     match heard.verdict {
         Ok(()) => Block {
             verdict: Ok(()),
             band: heard.power,
-            outside: beside(spectrum, lo, hi, plan.half),
+            outside: beside(spectrum, band, tables.plan.half),
             decision: heard.decision,
         },
         Err(why) => Block {
@@ -58,15 +50,15 @@ pub fn listen(
 }
 
 // The power of the bins from 1 on that are not in the band.
-fn beside(spectrum: &[f32], lo: usize, hi: usize, half: usize) -> f32
-    requires { (lo ≤ hi) × (hi ≤ half) × (2 * (half + 1) ≤ length spectrum.now) × (length spectrum.now ≤ 8194) }
-    ensures { result ≡ besides spectrum.now lo hi half }
+fn beside(spectrum: &[f32], band: Band, half: usize) -> f32
+    requires { (band.lo ≤ band.hi) × (band.hi ≤ half) × (2 * (half + 1) ≤ length spectrum.now) × (length spectrum.now ≤ 8194) }
+    ensures { result ≡ besides spectrum.now band.lo band.hi half }
 {
-    let above = sum(spectrum, hi + 1, half - hi);
-    if lo == 0 {
+    let above = sum(spectrum, band.hi + 1, half - band.hi);
+    if band.lo == 0 {
         return above;
     }
-    sum(spectrum, 1, lo - 1) + above
+    sum(spectrum, 1, band.lo - 1) + above
 }
 
 // Adds the power of each bin to the sum of its bin, as far as there are both.
