@@ -1,5 +1,5 @@
 // What an iteration reads, and its outputs. With literal radices the compiler unrolls the loops and folds the turns to constants. A const radix is
-// unrolled too early: a call at 1,024 takes 222,972 instructions with it, and 56,272 without.
+// unrolled too early: a call at 1,024 takes 221,141 instructions with it, and 56,199 without.
 ghost use Rattle.std.specs.Prelude.{◌≡◌, true, false, ℕ, ◌+◌, ◌-◌, ◌*◌, ◌<◌, ◌≤◌, length, get_or};
 ghost use Rattle.sequences.specs.Lists.{tabulate};
 ghost use Rattle.radices.specs.Lists.{is_radix};

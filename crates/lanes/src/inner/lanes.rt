@@ -87,7 +87,6 @@ pub fn lanes<const N: usize>(
     requires { Sized m r (length src.now) × (i + len ≤ m) × (len ≤ N) × (N ≤ 16) × (2 * (rows_lent N len * (r - 1)) ≤ length tw.now) × (3 ≤ r) }
     ensures { Pairs low.new.re low.new.im high.new.re high.new.im × ((lent : ℕ → ℕ → Complex) → Lent N i len r lent tw.now → Paired i len r (output_of false m r src.now lent) low.new.re low.new.im high.new.re high.new.im) }
 {
-    // read and save are two calls in each arm: as one helper they are not inlined, and a call at 1,024 takes 201,499 instructions for 56,272
     for j in 0..len {
         let k = i + j;
         match r {
