@@ -40,7 +40,8 @@ module _ (r : Block) (sp : List Float) (lo hi half : ℕ) (threshold : Float) wh
   band_held Accepted q = rw q (power_fits sp lo (hi + 1 - lo))
   band_held (Refused why) q = rw q (of_bits-fits binary32 0)
 
-module _ (p : Record) (W : ℕ) (xs weights stage end : List Float) (lo hi : ℕ) (threshold : Float) (before : Slices) (r : Block) (ys : List Float) (after : Slices)
+module _ (p : Record) (W : ℕ) (xs weights stage end : List Float) (lo hi : ℕ) (threshold : Float) (before : Slices) (r : Block) (ys : List Float)
+    (after : Slices)
     (call : Listens p W xs weights stage end lo hi threshold before r ys after) where
   abbrev told : Verdict
   told = hear_verdict p W ys (length before.0) (length before.1) stage end lo hi
