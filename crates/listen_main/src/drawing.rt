@@ -79,12 +79,10 @@ fn mean(sums: &[f64], blocks: usize) -> f64 {
 }
 
 // The step of a power that is an f64, as an f32 of that power has it.
-fn step(power: f64) -> usize
-    ensures { result ≤ 65535 }
-{
+fn step(power: f64) -> u16 {
     if power >= 1.1754943508222875e-38 {
-        let whole = (f64::to_bits(power) / 35184372088832) as usize;
-        return whole.saturating_sub(114688).min(65535);
+        let whole = f64::to_bits(power) / 35184372088832;
+        return whole.saturating_sub(114688).min(65535) as u16;
     }
     0
 }

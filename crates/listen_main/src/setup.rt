@@ -20,7 +20,7 @@ pub struct Setup {
     pub ends: usize,
     pub rate: usize,
     pub band: Band,
-    pub full: usize,
+    pub full: u16,
     pub threshold: f32,
     pub plot: bool,
     pub ghost block_some: { 0 < plan.n },
@@ -31,7 +31,6 @@ pub struct Setup {
     pub ghost ends_few: { ends ≤ 1679 },
     pub ghost rate_some: { 0 < rate },
     pub ghost rate_few: { rate ≤ 192000 },
-    pub ghost full_few: { full ≤ 65535 },
 }
 
 // The highest frequency that a word can say.
@@ -126,9 +125,7 @@ fn bins(options: Options, rate: usize, plan: Record) -> Result<Band, Fault>
 }
 
 // The power of the threshold of a level, which rounding alone must not reach.
-fn threshold(level: usize, full: usize, feigned: usize) -> Result<f32, Fault>
-    requires { full ≤ 65535 }
-{
+fn threshold(level: usize, full: u16, feigned: usize) -> Result<f32, Fault> {
     if level > 16000 {
         return Err(Fault::AboveFull);
     }

@@ -70,8 +70,7 @@ fn push_decision(text: &mut Text, decision: Decision)
 }
 
 // The line of a block that begins at a time, against the step of full scale.
-pub fn block_line(ms: usize, full: usize, block: Block) -> Text
-    requires { full ≤ 65535 }
+pub fn block_line(ms: usize, full: u16, block: Block) -> Text
     ensures { Holds (block_line ms full block) result }
 {
     let mut text = Text::new();

@@ -8,6 +8,6 @@ pub returns : goal.returns
 returns c =
     let a = c.args in
     rw c.unwrap_or.ensures
-    (lowest_found a.full a.parts a.level c.find.result c.requires.1
+    (lowest_found a.full a.parts a.level c.find.result c.requires
     (first_from_Range _ _ _ c.find.result (Above a.full a.parts) (Below a.full a.parts) c.find.ensures.ran (λ x q k. search (rules, tests))
     (λ x q k. search (rules, tests))))

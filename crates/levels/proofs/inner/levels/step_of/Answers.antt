@@ -9,8 +9,8 @@ overflow_cast-result c = omega (arith, upper_half c.args.power c.well_formed.0.1
 
 pub returns-then-power : goal.returns-then-power
 unfolding step_of
-returns-then-power c = (rw c.if-power.true, upper_half c.args.power c.well_formed.0.1)
+returns-then-power c = rw c.if-power.true
 
 pub returns : goal.returns
 unfolding step_of
-returns c = (rw c.if-power.false, omega arith)
+returns c = rw c.if-power.false

@@ -10,6 +10,6 @@ unfolding block_line
 returns c =
     let full = c.args.full in let b = c.args.block in
     holds c.new-text.ensures (lit≤ tt) (then c.push_time.ensures (then c.extend_from_slice.ensures
-    (then (power_said full b.band c.step_of.ensures.0 c.level_of.ensures.0 c.push_level.ensures) (then c.extend_from_slice-2.ensures
-    (then (power_said full b.outside c.step_of-2.ensures.0 c.level_of-2.ensures.0 c.push_level-2.ensures)
+    (then (power_said full b.band c.step_of.ensures c.level_of.ensures.0 c.push_level.ensures) (then c.extend_from_slice-2.ensures
+    (then (power_said full b.outside c.step_of-2.ensures c.level_of-2.ensures.0 c.push_level-2.ensures)
     (then c.extend_from_slice-3.ensures c.push_decision.ensures))))))
