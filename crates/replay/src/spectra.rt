@@ -13,6 +13,7 @@ use recorded::inner::plans::asked;
 use recorded::inner::text::{Base, Line, number, read_line};
 use recorded::inner::words::{fill, read, summed};
 use std::io::Read;
+use transform::Tables;
 use transform::inner::directions::inverse;
 
 // What a record asks for of each of its cases: the step at an end alone, of the forward transform or of the inverse one, or the inverse transform.
@@ -295,15 +296,13 @@ fn inverted(
     if stage_twiddles.len() != 2 * stages || end_twiddles.len() != 2 * ends {
         return false;
     }
-    inverse(
+    let tables = Tables {
         plan,
         width,
-        input,
-        output,
-        scratch,
         stage_twiddles,
         end_twiddles,
-    );
+    };
+    inverse(tables, input, output, scratch);
     true
 }
 
