@@ -265,21 +265,20 @@ fn parted(
     if stages > twiddles.len() {
         return false;
     }
-    let (stage, end) = twiddles.split_at(stages);
-    inverted(plan, width, input, output, scratch, stage, end)
+    let (stage_twiddles, end_twiddles) = twiddles.split_at(stages);
+    let tables = Tables {
+        plan,
+        width,
+        stage_twiddles,
+        end_twiddles,
+    };
+    inverted(tables, input, output, scratch)
 }
 
 // Whether the inverse transform can be done, which is then done by the unguarded core.
-fn inverted(
-    plan: Record,
-    width: usize,
-    input: &[f32],
-    output: &mut [f32],
-    scratch: &mut [f32],
-    stage_twiddles: &[f32],
-    end_twiddles: &[f32],
-) -> bool {
-    if !is_width(width) || plan.n == 0 || plan.half > 4096 || !is_planned(plan) {
+fn inverted(tables: Tables, input: &[f32], output: &mut [f32], scratch: &mut [f32]) -> bool {
+    let plan = tables.plan;
+    if !is_width(tables.width) || plan.n == 0 || plan.half > 4096 || !is_planned(plan) {
         return false;
     }
     let stages = twiddle_start(plan, plan.count);
@@ -293,15 +292,9 @@ fn inverted(
     {
         return false;
     }
-    if stage_twiddles.len() != 2 * stages || end_twiddles.len() != 2 * ends {
+    if tables.stage_twiddles.len() != 2 * stages || tables.end_twiddles.len() != 2 * ends {
         return false;
     }
-    let tables = Tables {
-        plan,
-        width,
-        stage_twiddles,
-        end_twiddles,
-    };
     inverse(tables, input, output, scratch);
     true
 }
