@@ -7,6 +7,7 @@ ghost use Rattle.hear.specs.Hear.{NumbersDecision, decided, hear_verdict, Hears}
 use power::inner::sum::sum;
 use refusal::{Refusal, Verdict};
 use spectrum::Tables;
+use spectrum::inner::check::lent_samples;
 use transform::inner::directions::forward;
 
 // What a block says of the bees.
@@ -58,7 +59,7 @@ fn lent_band(
 ) -> Verdict
     ensures { result ≡ hear_verdict tables.entry.plan tables.entry.width input.now output scratch tables.entry.stage_twiddles.now tables.entry.end_twiddles.now lo hi }
 {
-    tables.lent_samples(input, output, scratch)?;
+    lent_samples(tables, input, output, scratch)?;
     if hi < lo {
         return Err(Refusal::Bins);
     }
@@ -82,15 +83,7 @@ pub fn hear(
 {
     match lent_band(tables, input, output.len(), scratch.len(), lo, hi) {
         Ok(()) => {
-            forward(
-                tables.plan,
-                tables.width,
-                input,
-                output,
-                scratch,
-                tables.stage_twiddles,
-                tables.end_twiddles,
-            );
+            forward(tables, input, output, scratch);
             let power = sum(output, lo, hi + 1 - lo);
             Heard {
                 verdict: Ok(()),

@@ -13,6 +13,7 @@ use recorded::inner::plans::asked;
 use recorded::inner::text::{Base, Line, number, read_line};
 use recorded::inner::words::{fill, read, summed};
 use std::io::Read;
+use transform::Tables;
 use transform::inner::directions::inverse;
 
 // What a record asks for of each of its cases: the step at an end alone, of the forward transform or of the inverse one, or the inverse transform.
@@ -264,21 +265,20 @@ fn parted(
     if stages > twiddles.len() {
         return false;
     }
-    let (stage, end) = twiddles.split_at(stages);
-    inverted(plan, width, input, output, scratch, stage, end)
+    let (stage_twiddles, end_twiddles) = twiddles.split_at(stages);
+    let tables = Tables {
+        plan,
+        width,
+        stage_twiddles,
+        end_twiddles,
+    };
+    inverted(tables, input, output, scratch)
 }
 
 // Whether the inverse transform can be done, which is then done by the unguarded core.
-fn inverted(
-    plan: Record,
-    width: usize,
-    input: &[f32],
-    output: &mut [f32],
-    scratch: &mut [f32],
-    stage_twiddles: &[f32],
-    end_twiddles: &[f32],
-) -> bool {
-    if !is_width(width) || plan.n == 0 || plan.half > 4096 || !is_planned(plan) {
+fn inverted(tables: Tables, input: &[f32], output: &mut [f32], scratch: &mut [f32]) -> bool {
+    let plan = tables.plan;
+    if !is_width(tables.width) || plan.n == 0 || plan.half > 4096 || !is_planned(plan) {
         return false;
     }
     let stages = twiddle_start(plan, plan.count);
@@ -292,18 +292,10 @@ fn inverted(
     {
         return false;
     }
-    if stage_twiddles.len() != 2 * stages || end_twiddles.len() != 2 * ends {
+    if tables.stage_twiddles.len() != 2 * stages || tables.end_twiddles.len() != 2 * ends {
         return false;
     }
-    inverse(
-        plan,
-        width,
-        input,
-        output,
-        scratch,
-        stage_twiddles,
-        end_twiddles,
-    );
+    inverse(tables, input, output, scratch);
     true
 }
 

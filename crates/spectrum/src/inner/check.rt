@@ -3,12 +3,12 @@ ghost use Rattle.std.specs.Prelude.{◌≡◌, ℕ, ◌+◌, ◌*◌, eqb, lengt
 ghost use Rattle.scan.specs.Scan.{bound};
 ghost use Rattle.spectrum.specs.Calls.{size_verdict, number_verdict, lent_verdict, forward_verdict};
 
-use crate::Tables;
 use counts::inner::stages::{end_count, twiddle_start};
 use packing::inner::places::is_width;
 use plan::inner::records::is_planned;
 use refusal::{Refusal, Verdict};
 use scan::inner::scan::first_unfit;
+use transform::Tables;
 
 // 2^32: samples are at most this.
 pub const LOUDEST: f32 = 4294967296.0;
@@ -26,73 +26,71 @@ pub fn is_bins(words: usize, h: usize) -> bool
     words / 2 - 1 == h
 }
 
-impl Tables<'_> {
-    // Refusals 5, 6 and 8, in this order: whether input and output have their lengths, and how many words the scratch has.
-    fn sizes(self, input: bool, output: bool, scratch: usize) -> Verdict
-        ensures { result ≡ size_verdict self.entry.plan self.entry.width input output scratch (length self.entry.stage_twiddles.now) (length self.entry.end_twiddles.now) }
-    {
-        let plan = self.plan;
-        if !is_planned(plan) {
-            return Err(Refusal::NotPlanned(0));
-        }
-        if !is_width(self.width) {
-            return Err(Refusal::Width);
-        }
-        if !input {
-            return Err(Refusal::Length(0));
-        }
-        if !output {
-            return Err(Refusal::Length(1));
-        }
-        if scratch < 6 * plan.n {
-            return Err(Refusal::Length(2));
-        }
-        if self.stage_twiddles.len() != 2 * twiddle_start(plan, plan.count) {
-            return Err(Refusal::Length(3));
-        }
-        if self.end_twiddles.len() != 2 * end_count(plan.n) {
-            return Err(Refusal::Length(4));
-        }
-        Ok(())
+// Refusals 5, 6 and 8, in this order: whether input and output have their lengths, and how many words the scratch has.
+fn sizes(tables: Tables, input: bool, output: bool, scratch: usize) -> Verdict
+    ensures { result ≡ size_verdict tables.entry.plan tables.entry.width input output scratch (length tables.entry.stage_twiddles.now) (length tables.entry.end_twiddles.now) }
+{
+    let plan = tables.plan;
+    if !is_planned(plan) {
+        return Err(Refusal::NotPlanned(0));
     }
+    if !is_width(tables.width) {
+        return Err(Refusal::Width);
+    }
+    if !input {
+        return Err(Refusal::Length(0));
+    }
+    if !output {
+        return Err(Refusal::Length(1));
+    }
+    if scratch < 6 * plan.n {
+        return Err(Refusal::Length(2));
+    }
+    if tables.stage_twiddles.len() != 2 * twiddle_start(plan, plan.count) {
+        return Err(Refusal::Length(3));
+    }
+    if tables.end_twiddles.len() != 2 * end_count(plan.n) {
+        return Err(Refusal::Length(4));
+    }
+    Ok(())
+}
 
-    // Refusals 9 and 10, in this order, with so large a bound for the input.
-    fn numbers(self, input: &[f32], most: f32) -> Verdict
-        ensures { (k : ℕ) → most ≡ bound k → result ≡ number_verdict k input.now self.entry.stage_twiddles.now self.entry.end_twiddles.now }
-    {
-        if let Some(large) = first_unfit(input, most) {
-            return Err(Refusal::Number(large));
-        }
-        if let Some(wide) = first_unfit(self.stage_twiddles, 1.0) {
-            return Err(Refusal::Twiddle(wide));
-        }
-        if let Some(last) = first_unfit(self.end_twiddles, 1.0) {
-            return Err(Refusal::Twiddle(self.stage_twiddles.len() + last));
-        }
-        Ok(())
+// Refusals 9 and 10, in this order, with so large a bound for the input.
+fn numbers(tables: Tables, input: &[f32], most: f32) -> Verdict
+    ensures { (k : ℕ) → most ≡ bound k → result ≡ number_verdict k input.now tables.entry.stage_twiddles.now tables.entry.end_twiddles.now }
+{
+    if let Some(large) = first_unfit(input, most) {
+        return Err(Refusal::Number(large));
     }
+    if let Some(wide) = first_unfit(tables.stage_twiddles, 1.0) {
+        return Err(Refusal::Twiddle(wide));
+    }
+    if let Some(last) = first_unfit(tables.end_twiddles, 1.0) {
+        return Err(Refusal::Twiddle(tables.stage_twiddles.len() + last));
+    }
+    Ok(())
+}
 
-    // The verdict of a transform.
-    pub fn lent(
-        self,
-        is_input: bool,
-        is_output: bool,
-        scratch: usize,
-        most: f32,
-        input: &[f32],
-    ) -> Verdict
-        ensures { (k : ℕ) → most ≡ bound k → result ≡ lent_verdict self.entry.plan self.entry.width is_input is_output scratch k input.now self.entry.stage_twiddles.now self.entry.end_twiddles.now }
-    {
-        self.sizes(is_input, is_output, scratch)?;
-        self.numbers(input, most)
-    }
+// The verdict of a transform.
+pub fn lent(
+    tables: Tables,
+    is_input: bool,
+    is_output: bool,
+    scratch: usize,
+    most: f32,
+    input: &[f32],
+) -> Verdict
+    ensures { (k : ℕ) → most ≡ bound k → result ≡ lent_verdict tables.entry.plan tables.entry.width is_input is_output scratch k input.now tables.entry.stage_twiddles.now tables.entry.end_twiddles.now }
+{
+    sizes(tables, is_input, is_output, scratch)?;
+    numbers(tables, input, most)
+}
 
-    // The verdict of `forward`, for callers that go on where it accepts: n samples of at most 2^32, and room for so many words.
-    pub fn lent_samples(self, input: &[f32], output: usize, scratch: usize) -> Verdict
-        ensures { result ≡ forward_verdict self.entry.plan self.entry.width input.now output scratch self.entry.stage_twiddles.now self.entry.end_twiddles.now }
-    {
-        let is_input = input.len() == self.plan.n;
-        let is_output = is_bins(output, self.plan.half);
-        self.lent(is_input, is_output, scratch, LOUDEST, input)
-    }
+// The verdict of `forward`, for callers that go on where it accepts: n samples of at most 2^32, and room for so many words.
+pub fn lent_samples(tables: Tables, input: &[f32], output: usize, scratch: usize) -> Verdict
+    ensures { result ≡ forward_verdict tables.entry.plan tables.entry.width input.now output scratch tables.entry.stage_twiddles.now tables.entry.end_twiddles.now }
+{
+    let is_input = input.len() == tables.plan.n;
+    let is_output = is_bins(output, tables.plan.half);
+    lent(tables, is_input, is_output, scratch, LOUDEST, input)
 }

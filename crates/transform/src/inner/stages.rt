@@ -10,35 +10,28 @@ ghost use Rattle.scratch.specs.Scratch.{data_of, pad_of, with_both};
 ghost use Rattle.transform.specs.Parts.{Staged};
 ghost use Rattle.transform.specs.Transforms.{prepared_of, restored};
 
+use crate::Tables;
 use counts::Buffer;
 use ends::inner::cells::{postprocess_fft, preprocess_ifft};
 use floats::inner::words::paste;
-use plan::Record;
 use scratch::inner::restoring::{from_data, from_pad};
 use stage::inner::drive::{Stages, held};
 
 // All stages, with what the first one reads lent apart, as if Data held it, and what they leave in Data and in the Scratchpad; answers which of
 // them holds the result.
-pub fn stages_from(
-    plan: Record,
-    width: usize,
-    input: &[f32],
-    scratch: &mut [f32],
-    other: &mut [f32],
-    twiddles: &[f32],
-) -> Buffer
-    requires { Staged plan width (length scratch.old) (length other.old) (length twiddles.now) × (length input.now ≡ 2 * plan.half) }
-    ensures value { result ≡ result_in plan.count }
-    ensures scratch_after { scratch.new ≡ with_both plan.half (run_of plan width twiddles.now (input.now, pad_of plan.half scratch.old)) scratch.old }
+pub fn stages_from(tables: Tables, input: &[f32], scratch: &mut [f32], other: &mut [f32]) -> Buffer
+    requires { Staged tables.plan tables.width (length scratch.old) (length other.old) (length tables.stage_twiddles.now) × (length input.now ≡ 2 * tables.plan.half) }
+    ensures value { result ≡ result_in tables.entry.plan.count }
+    ensures scratch_after { scratch.new ≡ with_both tables.entry.plan.half (run_of tables.entry.plan tables.entry.width tables.entry.stage_twiddles.now (input.now, pad_of tables.entry.plan.half scratch.old)) scratch.old }
 {
-    let words = 2 * plan.half;
+    let words = 2 * tables.plan.half;
     let stages = Stages {
-        plan,
-        width,
-        twiddles,
+        plan: tables.plan,
+        width: tables.width,
+        twiddles: tables.stage_twiddles,
     };
     let which = stages.all_from(input, &mut scratch[..words], &mut other[..words]);
-    if plan.count > 0 {
+    if tables.plan.count > 0 {
         paste(&other[..words], scratch, words);
     }
     which
@@ -54,36 +47,38 @@ fn part<'a>(which: Buffer, scratch: &'a [f32], h: usize) -> &'a [f32]
 }
 
 // From the buffer so named to bins.
-pub fn finish(which: Buffer, scratch: &[f32], output: &mut [f32], end_twiddles: &[f32], h: usize)
-    requires { Endable h (length output.old) (length end_twiddles.now) × (4 * h ≤ length scratch.now) }
-    ensures { output.new ≡ postprocess_fft h end_twiddles.now (held_in which (data_of h scratch.now, pad_of h scratch.now)) }
+pub fn finish(tables: Tables, which: Buffer, scratch: &[f32], output: &mut [f32])
+    requires { Endable tables.plan.half (length output.old) (length tables.end_twiddles.now) × (4 * tables.plan.half ≤ length scratch.now) }
+    ensures { output.new ≡ postprocess_fft tables.entry.plan.half tables.entry.end_twiddles.now (held_in which (data_of tables.entry.plan.half scratch.now, pad_of tables.entry.plan.half scratch.now)) }
 {
-    postprocess_fft(part(which, scratch, h), end_twiddles, output, h);
+    let h = tables.plan.half;
+    postprocess_fft(part(which, scratch, h), tables.end_twiddles, output, h);
 }
 
 // Bins prepared in the scratch, and conjugated.
-pub fn prepare(input: &[f32], scratch: &mut [f32], end_twiddles: &[f32], h: usize)
-    requires { Endable h (length input.now) (length end_twiddles.now) × (4 * h ≤ length scratch.old) }
-    ensures { scratch.new ≡ conjugated h (data_of h (prepared_of h end_twiddles.now input.now scratch.old)) ++ drop (2 * h) (prepared_of h end_twiddles.now input.now scratch.old) }
+pub fn prepare(tables: Tables, input: &[f32], scratch: &mut [f32])
+    requires { Endable tables.plan.half (length input.now) (length tables.end_twiddles.now) × (4 * tables.plan.half ≤ length scratch.old) }
+    ensures { scratch.new ≡ conjugated tables.entry.plan.half (data_of tables.entry.plan.half (prepared_of tables.entry.plan.half tables.entry.end_twiddles.now input.now scratch.old)) ++ drop (2 * tables.entry.plan.half) (prepared_of tables.entry.plan.half tables.entry.end_twiddles.now input.now scratch.old) }
 {
+    let h = tables.plan.half;
     let bins = 2 * (h + 1);
-    preprocess_ifft(input, end_twiddles, &mut scratch[..bins], h);
+    preprocess_ifft(input, tables.end_twiddles, &mut scratch[..bins], h);
 }
 
 // All stages on what Data holds, and their result conjugated where it stands and copied to Data and to the first words of the output.
-pub fn invert(plan: Record, width: usize, scratch: &mut [f32], output: &mut [f32], twiddles: &[f32])
-    requires { Staged plan width (length scratch.old) (length output.old) (length twiddles.now) }
-    ensures scratch_after { scratch.new ≡ with_both plan.half (restored plan.half (result_in plan.count) (run_of plan width twiddles.now (data_of plan.half scratch.old, pad_of plan.half scratch.old))) scratch.old }
-    ensures output_after { output.new ≡ (restored plan.half (result_in plan.count) (run_of plan width twiddles.now (data_of plan.half scratch.old, pad_of plan.half scratch.old))).0 ++ drop (2 * plan.half) output.old }
+pub fn invert(tables: Tables, scratch: &mut [f32], output: &mut [f32])
+    requires { Staged tables.plan tables.width (length scratch.old) (length output.old) (length tables.stage_twiddles.now) }
+    ensures scratch_after { scratch.new ≡ with_both tables.entry.plan.half (restored tables.entry.plan.half (result_in tables.entry.plan.count) (run_of tables.entry.plan tables.entry.width tables.entry.stage_twiddles.now (data_of tables.entry.plan.half scratch.old, pad_of tables.entry.plan.half scratch.old))) scratch.old }
+    ensures output_after { output.new ≡ (restored tables.entry.plan.half (result_in tables.entry.plan.count) (run_of tables.entry.plan tables.entry.width tables.entry.stage_twiddles.now (data_of tables.entry.plan.half scratch.old, pad_of tables.entry.plan.half scratch.old))).0 ++ drop (2 * tables.entry.plan.half) output.old }
 {
-    let words = 2 * plan.half;
+    let words = 2 * tables.plan.half;
     let stages = Stages {
-        plan,
-        width,
-        twiddles,
+        plan: tables.plan,
+        width: tables.width,
+        twiddles: tables.stage_twiddles,
     };
     match stages.all(&mut scratch[..words], &mut output[..words]) {
-        Buffer::Data => from_data(scratch, output, plan.half, plan.count > 0),
-        Buffer::Scratchpad => from_pad(scratch, output, plan.half),
+        Buffer::Data => from_data(scratch, output, tables.plan.half, tables.plan.count > 0),
+        Buffer::Scratchpad => from_pad(scratch, output, tables.plan.half),
     }
 }

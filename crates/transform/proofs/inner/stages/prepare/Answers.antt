@@ -22,4 +22,4 @@ preprocess_ifft-requires c = let e = c.requires.0 in (
 )
 
 pub returns : goal.returns
-returns c = let a = c.args in prepare_made a.h a.end_twiddles.now a.input.now a.scratch.now _ c.requires.0.some c.preprocess_ifft.ensures
+returns c = let a = c.args in prepare_made a.tables.plan.half a.tables.end_twiddles.now a.input.now a.scratch.now _ c.requires.0.some c.preprocess_ifft.ensures

@@ -1,7 +1,7 @@
--- `spectrum::Tables::lent_samples` meets its contract. Assumes nothing.
+-- `spectrum::inner::check::lent_samples` meets its contract. Assumes nothing.
 use Rattle.sequences.proofs.Basics.{refl}
 use lib.Ieee.{of_bits}
-use Rattle.spectrum.proofs.Tables.lent_samples.Goals as goal
+use Rattle.spectrum.proofs.inner.check.lent_samples.Goals as goal
 
 pub returns : goal.returns
 unfolding of_bits
