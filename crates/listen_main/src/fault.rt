@@ -1,7 +1,7 @@
 // Why samples cannot be heard as the options ask, or no further.
 use input_rows::inner::rows::Broken;
+use listen_input::inner::source;
 use listen_input::inner::told::Unwritten;
-use listen_input::inner::{source, told};
 use refusal::Refusal;
 use std::fmt;
 use std::fmt::Display;

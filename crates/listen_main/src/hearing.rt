@@ -11,7 +11,6 @@ use listen_input::inner::options::Options;
 use listen_input::inner::source::{Source, Start, skip};
 use listen_input::inner::told::{print_line, tell};
 use listen_text::inner::lines::{block_line, left_line, whole_line};
-use listening::Block;
 use listening::inner::block::{gather, listen};
 use listening::inner::window::window;
 use pcm::inner::samples::read_samples;

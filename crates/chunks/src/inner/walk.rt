@@ -87,7 +87,7 @@ pub fn step(chunk: View<24>, rate: Option<u32>) -> Result<Walk, Refusal>
     skip(chunk, rate)
 }
 
-// The samples of a whole file.
+// The samples of a whole file. A loop and no `for`: each chunk says where the next begins.
 pub fn walk_over(file: &[u8]) -> Result<Samples, Refusal>
     ensures { result ≡ walk_of file.now }
 {

@@ -18,7 +18,7 @@ fn spread(o: [Complex; 8], dst: &mut [f32], at: usize, r: usize)
     }
 }
 
-// Iterations i to i + len, each radix written out.
+// Iterations i to i + len, each radix written out, so that the compiler folds its turns.
 pub fn first(src: &[f32], dst: &mut [f32], i: usize, m: usize, len: usize, r: usize)
     requires { Sized m r (length src.now) × (i + len ≤ m) × (2 * (m * r) ≤ length dst.old) }
     ensures { (lent : ℕ → ℕ → Complex) → Done 1 r (output_of true m r src.now lent) dst.old i → Done 1 r (output_of true m r src.now lent) dst.new (i + len) }

@@ -14,7 +14,7 @@ use lanes::inner::lanes::{Outputs, lanes};
 use plan::Record;
 use storing::inner::storing::{Place, evenly, store};
 
-// The first stage of radix r, of m iterations. The loops of a stage are by while, since how far a round goes is found in it.
+// The first stage of radix r, of m iterations.
 fn first_stage(src: &[f32], dst: &mut [f32], m: usize, r: usize)
     requires { Sized m r (length src.now) × (2 * (m * r) ≤ length dst.old) }
     ensures { (lent : ℕ → ℕ → Complex) → Done 1 r (output_of true m r src.now lent) dst.new m }

@@ -29,8 +29,7 @@ impl Outputs {
     }
 }
 
-// Every second of the r outputs of the cells c to lane j, each stored when it is made. By while: step_by would want a measure and no less of an
-// invariant.
+// Every second of the r outputs of the cells c to lane j, each stored when it is made.
 fn every_second(c: [Complex; 8], to: &mut Outputs, j: usize, r: usize, from: usize)
     requires { (is_radix r ≡ true) × (2 ≤ r) × (r ≤ 8) × (j < 16) × (from < 2) }
     ensures { Taken (Every from r) (kernel_of r (λ q. get_or c q blank)) j to.old.re to.old.im to.new.re to.new.im }

@@ -2,7 +2,6 @@
 ghost use Rattle.std.specs.Prelude.{◌+◌, ◌≤◌, ◌<◌, OnSome};
 
 use crate::inner::source::Source;
-use crate::inner::told::tell;
 use listen_words::inner::words::{level_of, number_of};
 use std::env::FillError;
 use std::fmt::Display;
@@ -129,6 +128,7 @@ impl Words {
         requires { F.IsAlwaysCallable read }
         ensures { self.new.left ≤ self.old.left }
     {
+        // No heap: words and paths are read into arrays.
         let mut word = [0u8; 4096];
         let length = rt.arg(self.next()?, &mut word).ok()?;
         read(&word[..length])

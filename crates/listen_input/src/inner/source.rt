@@ -103,9 +103,6 @@ impl From<Broken> for Fault {
     }
 }
 
-// 'fmt ', the number of its four letters.
-const FORMAT: usize = 544501094;
-
 // Bare samples, to whose number there is no end.
 pub fn bare(rate: usize) -> Start {
     Start {
@@ -197,6 +194,7 @@ fn walked(source: &mut Source, total: usize) -> Result<Start, Fault>
 {
     let mut at: usize = 12;
     let mut rate = None;
+    // No `for`: each chunk says where the next begins.
     loop {
         let mut window = [0u8; 24];
         let read = at + shown(source, &mut window, rate, at, total)?;
@@ -263,7 +261,7 @@ fn shown(
     let left = total - at;
     let first = left.min(8);
     all_came(fill(source, &mut window[..first]), first, at)?;
-    if first < 8 || rate.is_some() || four(window, 0) != FORMAT {
+    if first < 8 || rate.is_some() || four(window, 0) != four(b"fmt ", 0) {
         return Ok(first);
     }
     let all = left.min(24);

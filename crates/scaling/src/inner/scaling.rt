@@ -10,7 +10,7 @@ use radices::Radices;
 use radices::inner::lists::{first_bad, product, running_product};
 use refusal::{Refusal, Verdict};
 
-// The smallest g with 2 ^ g times the base at least the target.
+// The smallest g with 2 ^ g times the base at least the target. No `for`: it is doubled until it is reached.
 pub fn gain(target: usize, base: usize) -> usize
     requires { (target ≤ 4096) × ((0 < base) × (base ≤ 8192)) }
     ensures { result ≡ gain target base }

@@ -21,7 +21,7 @@ fn row(from: &Outputs, k: usize, dst: &mut [f32], at: usize, n: usize)
     }
 }
 
-// The same for 1, 2 or 4 cells, each written out.
+// The same for 1, 2 or 4 cells, each written out, so that the compiler makes no loop of it.
 fn piece(from: &Outputs, k: usize, dst: &mut [f32], at: usize, n: usize)
     requires { Batch n × (0 < n) × (k + n ≤ 128) × (2 * (at + n) ≤ length dst.old) }
     ensures { Wrote (λ t. lane from.now.re from.now.im (k + t)) at n dst.old dst.new }

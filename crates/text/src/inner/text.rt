@@ -5,7 +5,7 @@ ghost use Rattle.text.specs.Growing.{Starts, Adds};
 
 use crate::Text;
 
-// How many decimal digits a number has.
+// How many decimal digits a number has. No `for`: it is divided until one is left.
 fn digits(n: usize) -> usize
     ensures { result ≡ length (decimal n) }
 {

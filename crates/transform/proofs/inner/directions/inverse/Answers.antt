@@ -26,8 +26,10 @@ pub returns : goal.returns
 returns c = let a = c.args in let i = c.invert in let n = length a.output.now in let some = (plan_half a.tables.plan c.requires.planned).0 in
     let many : 2 * a.tables.plan.half ≤ n = omega (arith, c.requires.samples, plan_twice a.tables.plan c.requires.planned) in
     let p = c.prepare.ensures in record {
-      output_after = inverse_made a.tables.plan a.tables.width a.tables.stage_twiddles.now a.tables.end_twiddles.now a.input.now a.scratch.now some c.requires.room _ p
+      output_after = inverse_made a.tables.plan a.tables.width a.tables.stage_twiddles.now a.tables.end_twiddles.now a.input.now a.scratch.now some
+          c.requires.room _ p
           a.output.now i.new.output c.clear.new.words n refl many i.ensures.output_after c.clear.ensures;
-      scratch_after = invert_made a.tables.plan a.tables.width a.tables.stage_twiddles.now a.tables.end_twiddles.now a.input.now a.scratch.now some c.requires.room _ p
+      scratch_after = invert_made a.tables.plan a.tables.width a.tables.stage_twiddles.now a.tables.end_twiddles.now a.input.now a.scratch.now some
+          c.requires.room _ p
           i.new.scratch n i.ensures.scratch_after;
     }

@@ -28,12 +28,14 @@ from_pad-requires c = let o = c.all in
 
 pub returns-in-Data : goal.returns-in-Data
 returns-in-Data c = let a = c.args in let o = c.all.ensures in let f = c.from_data.ensures in
-    let both = from_data a.tables.plan a.tables.width a.tables.stage_twiddles.now a.scratch.now a.output.now c.requires.room c.requires.other _ _ o.data_after o.scratch_after _ _
+    let both = from_data a.tables.plan a.tables.width a.tables.stage_twiddles.now a.scratch.now a.output.now c.requires.room c.requires.other _ _
+    o.data_after o.scratch_after _ _
     (sym o.value ∙ c.in-Data.is) f.scratch_after f.output_after in
     record { scratch_after = both.0; output_after = both.1 }
 
 pub returns-in-Scratchpad : goal.returns-in-Scratchpad
 returns-in-Scratchpad c = let a = c.args in let o = c.all.ensures in let f = c.from_pad.ensures in
-    let both = from_pad a.tables.plan a.tables.width a.tables.stage_twiddles.now a.scratch.now a.output.now c.requires.room c.requires.other _ _ o.data_after o.scratch_after _ _
+    let both = from_pad a.tables.plan a.tables.width a.tables.stage_twiddles.now a.scratch.now a.output.now c.requires.room c.requires.other _ _
+    o.data_after o.scratch_after _ _
     (sym o.value ∙ c.in-Scratchpad.is) f.scratch_after f.output_after in
     record { scratch_after = both.0; output_after = both.1 }
