@@ -36,10 +36,10 @@ pub record Round (e end s r : ℕ) (v : ℕ → ℕ → Complex) (start : ℕ) (
 -- one more, of n iterations, in the lanes ra' .. ib'
 module _ {e end s r start block col i : ℕ} {v : ℕ → ℕ → Complex} {ra ia rb ib ra' ia' rb' ib' ys₀ ys : List Float} (n : ℕ)
     (w : Round e end s r v start ra ia rb ib ys₀ ys block col i) (few : Even e n) (pairs : Pairs ra' ia' rb' ib') where
-  pub round_asks : {M N : ℕ} → Blocks M s r (length ys₀) → Batch e → Even e s → i + n ≤ M → n ≤ N → N ≤ 16
-      → Stored i M n s r (length ys) × (n ≤ N) × Evenly e n s × Placed e i s r block col
-  round_asks b batch even within lanes most =
-      (record { blocks = rw w.size b; within = within; lanes = omega arith }, lanes, record { batch = batch; lanes = few; stride = even }, w.placed)
+  pub round_asks : {M N : ℕ} → Blocks M s r (length ys₀) → i + n ≤ M → n ≤ N → N ≤ 16
+      → Stored i M n s r (length ys) × (n ≤ N) × Placed e i s r block col
+  round_asks b within lanes most =
+      (record { blocks = rw w.size b; within = within; lanes = omega arith }, lanes, w.placed)
 
   pub round_next : {block' col' : ℕ} {ys' : List Float} → i + n ≤ end → length ys' ≡ length ys
       → Placed e (i + n) s r block' col' × ((u : ℕ → ℕ → Complex) → Paired i n r u ra' ia' rb' ib' → Done s r u ys i → Done s r u ys' (i + n))

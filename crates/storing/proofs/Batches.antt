@@ -149,9 +149,9 @@ module _ {e i len s r block col : ℕ} {ra ia rb ib ys₀ : List Float} where
       }
 
   module _ {j : ℕ} {ys : List Float} (w : Storing e i len s r ra ia rb ib ys₀ ys block col j) where
-    pub storing_asks : {M : ℕ} → Stored i M len s r (length ys₀) → Evenly e len s → j < len
-        → Stored i M len s r (length ys) × Evenly e len s × Waiting e i len s r block col j × (j < len)
-    storing_asks st v l = (rw w.size st, v, w.waiting, l)
+    pub storing_asks : {M : ℕ} → Stored i M len s r (length ys₀) → j < len
+        → Stored i M len s r (length ys) × Waiting e i len s r block col j × (j < len)
+    storing_asks st l = (rw w.size st, w.waiting, l)
 
     pub storing_next : {block' col' j' : ℕ} {ys' : List Float} → length ys' ≡ length ys → Waiting e i len s r block' col' j' × (j < j')
         × ((v : ℕ → ℕ → Complex) → Paired i len r v ra ia rb ib → Done s r v ys (i + j) → Done s r v ys' (i + j'))

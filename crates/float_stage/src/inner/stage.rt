@@ -12,7 +12,7 @@ use crate::inner::lent::{Layout, fetch, first_word, laid_out, lent};
 use counts::inner::stages::stride;
 use lanes::inner::lanes::{Outputs, lanes};
 use plan::Record;
-use storing::inner::storing::{Place, evenly, store};
+use storing::inner::storing::{Place, Span, evenly, store};
 
 // The first stage of radix r, of m iterations.
 fn first_stage(src: &[f32], dst: &mut [f32], m: usize, r: usize)
@@ -64,7 +64,15 @@ fn by_fours(
             len,
             r,
         );
-        at = store::<4>(&low, &high, dst, at, i, m, len, s, r, even);
+        let span = Span {
+            i,
+            m,
+            len,
+            s,
+            r,
+            even,
+        };
+        at = store::<4>(&low, &high, dst, at, span);
         i += len;
     }
     at
@@ -105,7 +113,15 @@ fn by_sixteens(
             len,
             r,
         );
-        at = store::<16>(&low, &high, dst, at, i, m, len, s, r, even);
+        let span = Span {
+            i,
+            m,
+            len,
+            s,
+            r,
+            even,
+        };
+        at = store::<16>(&low, &high, dst, at, span);
         i += len;
     }
 }

@@ -124,53 +124,64 @@ pub struct Next {
     pub j: usize,
 }
 
-// Of the len iterations from i on, whose outputs are stored below lane j, some more of one block.
+// Iterations in lanes: the len from i on, of the m of a stage of radix r at stride s, of which `even` are stored at once, or 0 where that is found anew.
+#[derive(Clone, Copy)]
+pub struct Span {
+    pub i: usize,
+    pub m: usize,
+    pub len: usize,
+    pub s: usize,
+    pub r: usize,
+    pub even: usize,
+    ghost evenly: { Evenly even len s },
+}
+
+// Of the iterations of a span, whose outputs are stored below lane j, some more of one block.
 pub fn step<'a>(
     low: &'a Outputs,
     high: &'a Outputs,
     dst: &mut [f32],
     at: Place,
-    i: usize,
     j: usize,
-    m: usize,
-    len: usize,
-    s: usize,
-    r: usize,
-    even: usize,
+    span: Span,
 ) -> Next
-    requires { Stored i m len s r (length dst.old) × Evenly even len s × Waiting even i len s r at.block at.col j × (j < len) }
-    ensures { Waiting even i len s r result.at.block result.at.col result.j × (j < result.j) × ((v : ℕ → ℕ → Complex) → Paired i len r v low.now.re low.now.im high.now.re high.now.im → Done s r v dst.old (i + j) → Done s r v dst.new (i + result.j)) }
+    requires { Stored span.i span.m span.len span.s span.r (length dst.old) × Waiting span.even span.i span.len span.s span.r at.block at.col j × (j < span.len) }
+    ensures { Waiting span.even span.i span.len span.s span.r result.at.block result.at.col result.j × (j < result.j) × ((v : ℕ → ℕ → Complex) → Paired span.i span.len span.r v low.now.re low.now.im high.now.re high.now.im → Done span.s span.r v dst.old (span.i + j) → Done span.s span.r v dst.new (span.i + result.j)) }
 {
-    let from = pick(low, high, r);
-    let n = batch(even, s - at.col, len - j);
-    rows(from, j, dst, at.block + at.col, i + j, n, s, r);
+    let from = pick(low, high, span.r);
+    let n = batch(span.even, span.s - at.col, span.len - j);
+    rows(
+        from,
+        j,
+        dst,
+        at.block + at.col,
+        span.i + j,
+        n,
+        span.s,
+        span.r,
+    );
     Next {
-        at: at.onward(n, s, r),
+        at: at.onward(n, span.s, span.r),
         j: j + n,
     }
 }
 
-// The outputs of the len iterations from i on, at most N, from the lanes to their cells, some of one block at a time; and the place of the next. Each N
+// The outputs of the iterations of a span, at most N, from the lanes to their cells, some of one block at a time; and the place of the next. Each N
 // is an instance of its own, since the compiler makes vectors only of lanes that one function stores.
 pub fn store<'a, const N: usize>(
     low: &'a Outputs,
     high: &'a Outputs,
     dst: &mut [f32],
     start: Place,
-    i: usize,
-    m: usize,
-    len: usize,
-    s: usize,
-    r: usize,
-    even: usize,
+    span: Span,
 ) -> Place
-    requires { Stored i m len s r (length dst.old) × (len ≤ N) × Evenly even len s × Placed even i s r start.block start.col }
-    ensures { Placed even (i + len) s r result.block result.col × ((v : ℕ → ℕ → Complex) → Paired i len r v low.now.re low.now.im high.now.re high.now.im → Done s r v dst.old i → Done s r v dst.new (i + len)) }
+    requires { Stored span.i span.m span.len span.s span.r (length dst.old) × (span.len ≤ N) × Placed span.even span.i span.s span.r start.block start.col }
+    ensures { Placed span.even (span.i + span.len) span.s span.r result.block result.col × ((v : ℕ → ℕ → Complex) → Paired span.i span.len span.r v low.now.re low.now.im high.now.re high.now.im → Done span.s span.r v dst.old span.i → Done span.s span.r v dst.new (span.i + span.len)) }
 {
     // by while: how many are stored at once is found in each step
     let mut next = Next { at: start, j: 0 };
-    while next.j < len {
-        next = step(low, high, dst, next.at, i, next.j, m, len, s, r, even);
+    while next.j < span.len {
+        next = step(low, high, dst, next.at, next.j, span);
     }
     next.at
 }

@@ -56,7 +56,7 @@ store-at-requires c =
     let four : n.result ≡ 4 = omega (arith, c.loop-i-test.true, c.loop-i.invariant.0, c.requires.6) in
     let fits : c.loop-i.i + n.result ≤ a.end = omega arith in
     let even = even_fours a.even a.s n.result c.requires.4 (omega (arith, four)) in
-    round_asks n.result c.loop-i.invariant.1 even c.lanes.ensures.0 c.requires.2 c.requires.3 c.requires.4
+    round_asks n.result c.loop-i.invariant.1 even c.lanes.ensures.0 c.requires.2
     (omega (arith, fits, c.requires.5)) (omega arith) (omega arith)
 
 pub overflow_add-i : goal.overflow_add-i

@@ -58,6 +58,14 @@ lanes-requires c =
     c.loop-i.invariant.1 fits (omega arith) c.requires.0.few c.requires.1.lent (c.fetch.auto.t ∙ c.loop-i.invariant.0) c.lent.ensures c.fetch.ensures in
     (c.requires.0, fits, omega arith, omega arith, part.1, c.requires.1.later)
 
+pub invariant_of-span : goal.invariant_of-span
+invariant_of-span c =
+    let a = c.args in
+    let n = c.min-len in
+    let even : Even a.even n.result = even_batch a.even c.loop-i.i a.m a.s a.r _ c.requires.5 c.requires.3 c.loop-i.invariant.2.even (λ x. omega arith)
+    (λ x. omega arith) in
+    record { evenly = record { batch = c.requires.4; lanes = even; stride = c.requires.5 } }
+
 pub store-at-requires : goal.store-at-requires
 store-at-requires c =
     let a = c.args in
@@ -65,7 +73,7 @@ store-at-requires c =
     let fits : c.loop-i.i + n.result ≤ a.m = omega arith in
     let even : Even a.even n.result = even_batch a.even c.loop-i.i a.m a.s a.r _ c.requires.5 c.requires.3 c.loop-i.invariant.2.even (λ x. omega arith)
     (λ x. omega arith) in
-    round_asks n.result c.loop-i.invariant.2 even c.lanes.ensures.0 c.requires.3 c.requires.4 c.requires.5 fits (omega arith) (omega arith)
+    round_asks n.result c.loop-i.invariant.2 even c.lanes.ensures.0 c.requires.3 fits (omega arith) (omega arith)
 
 pub overflow_add-i : goal.overflow_add-i
 overflow_add-i c =

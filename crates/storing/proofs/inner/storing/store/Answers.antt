@@ -4,10 +4,10 @@ use Rattle.storing.proofs.Batches.{storing_none, storing_asks, storing_next, sto
 use Rattle.storing.proofs.inner.storing.store.Goals as goal
 
 pub loop-next-init : goal.loop-next-init
-loop-next-init g c = let p = c.requires in storing_none p.2 p.3
+loop-next-init g c = let p = c.requires in storing_none c.args.span.evenly p.2
 
 pub step-next-requires : goal.step-next-requires
-step-next-requires g c = let p = c.requires in storing_asks c.loop-next.invariant p.0 p.2 c.loop-next-test.true
+step-next-requires g c = let p = c.requires in storing_asks c.loop-next.invariant p.0 c.loop-next-test.true
 
 pub loop-next-smaller : goal.loop-next-smaller
 loop-next-smaller g c = omega (arith, c.step-next.ensures.0.fits)
