@@ -8,7 +8,7 @@ use Rattle.floats.specs.declared.complex.Complex.{Complex}
 use Rattle.kernel.specs.Floats.{lent_at}
 use Rattle.kernel.specs.Parts.{output_of}
 use Rattle.lanes.specs.Parts.{Pairs, Paired}
-use Rattle.storing.specs.Parts.{Done, Blocks, Stored, Batch, Even, Evenly, Placed}
+use Rattle.storing.specs.Parts.{Done, Blocks, Stored, Even, Placed}
 use Rattle.storing.proofs.Batches.{even_none, even_add, even_sub, even_mul}
 
 pub even_batch : (e i M s r nd : ℕ) {n : ℕ} → Even e s → Blocks M s r nd → Even e i → (M - i < 16 → n ≡ M - i) → (16 ≤ M - i → n ≡ 16) → Even e n

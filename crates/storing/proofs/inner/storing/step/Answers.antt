@@ -17,7 +17,11 @@ pub rows-requires : goal.rows-requires
 rows-requires c = let p = c.requires in let b = c.batch-n.ensures in let w = waiting_rows p.0 c.args.span.evenly p.1 p.2 b in (w.0, w.1, b.0, b.1, w.2)
 
 pub onward-requires : goal.onward-requires
-onward-requires c = let p = c.requires in (waiting_within p.0 c.args.span.evenly p.1 p.2 c.batch-n.ensures, omega (arith, waiting_room p.0 c.args.span.evenly p.1 p.2))
+onward-requires c = let p = c.requires in (
+  waiting_within p.0 c.args.span.evenly p.1 p.2 c.batch-n.ensures,
+  omega
+      (arith, waiting_room p.0 c.args.span.evenly p.1 p.2),
+)
 
 pub returns : goal.returns
 returns c = let a = c.args in let p = c.requires in let b = c.batch-n.ensures in let rows = c.rows in (
