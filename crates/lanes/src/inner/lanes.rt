@@ -34,13 +34,12 @@ fn every_second(c: [Complex; 8], to: &mut Outputs, j: usize, r: usize, from: usi
     requires { (is_radix r ≡ true) × (2 ≤ r) × (r ≤ 8) × (j < 16) × (from < 2) }
     ensures { Taken (Every from r) (kernel_of r (λ q. get_or c q blank)) j to.old.re to.old.im to.new.re to.new.im }
 {
-    let mut p = from;
-    while p < r {
+    for n in 0..(r - from).div_ceil(2) {
+        let p = from + 2 * n;
         let z = output(c, r, p);
         let k = 16 * p + j;
         to.re[k] = z.re;
         to.im[k] = z.im;
-        p += 2;
     }
 }
 
