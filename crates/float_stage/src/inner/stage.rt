@@ -19,6 +19,7 @@ fn first_stage(src: &[f32], dst: &mut [f32], m: usize, r: usize)
     requires { Sized m r (length src.now) × (2 * (m * r) ≤ length dst.old) }
     ensures { (lent : ℕ → ℕ → Complex) → Done 1 r (output_of true m r src.now lent) dst.new m }
 {
+    // By while: with `first` over all m and no rounds a forward transform of 1,024 takes over 192,000 instructions, not 56,363.
     let mut i = 0;
     while i < m {
         let len = (m - i).min(4096);
@@ -51,6 +52,7 @@ fn by_fours(
     let mut low = Outputs::new();
     let mut high = Outputs::new();
     let mut at = Place { block: 0, col: 0 };
+    // By while: with `for n in 0..end / 4`, and a for in by_sixteens, 1,458 at width 4 takes 148,041 instructions, not 137,443.
     let mut i = 0;
     while i < end {
         let len = (end - i).min(4);
@@ -99,6 +101,7 @@ fn by_sixteens(
     let mut high = Outputs::new();
     let layout = laid_out(w);
     let mut at = start;
+    // By while: with `for n in 0..(m - end).div_ceil(16)` 1,458 at width 1 takes 132,014 instructions, not 129,954.
     let mut i = end;
     while i < m {
         let len = (m - i).min(16);
