@@ -1,4 +1,6 @@
 // Complex numbers of two f32.
+ghost use Rattle.std.specs.Prelude.{◌≡◌};
+ghost use Rattle.turn.specs.Turns.{words_of};
 ghost use Rattle.floats.specs.Complexes.{Adds, Subtracts, Multiplies, Conjugates, TurnsBy};
 
 use std::ops::{Add, Mul, Sub};
@@ -9,6 +11,22 @@ use turn::Turn;
 pub struct Complex {
     pub re: f32,
     pub im: f32,
+}
+
+// The two words of a turn, its cosine and its negated sine: 1, -1 and +0 where it is whole quarters.
+impl From<Turn> for Complex {
+    ghost from_gives = { λ turn z. (z.re, z.im) ≡ words_of turn };
+
+    #[tactic(auto, unfolding(turn::specs::Turns::words_of))]
+    fn from(turn: Turn) -> Complex {
+        match turn {
+            Turn::Zero => Complex { re: 1.0, im: 0.0 },
+            Turn::Quarter => Complex { re: 0.0, im: -1.0 },
+            Turn::Half => Complex { re: -1.0, im: 0.0 },
+            Turn::ThreeQuarter => Complex { re: 0.0, im: 1.0 },
+            Turn::General(re, im) => Complex { re, im },
+        }
+    }
 }
 
 impl Add for Complex {

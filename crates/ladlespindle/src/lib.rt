@@ -10,13 +10,13 @@ ghost use Rattle.counts.specs.Counts.{result_in, buffer_number};
 ghost use Rattle.ladlespindle.specs.Calls.{answered, GivesTurn, GivesForward, GivesInverse, GivesStage, GivesSpectrum, GivesSamples, GivesPower, GivesHeard, crossed_wav, GivesMeasured, GivesRead, GivesWritten, GivesRemainderStage, GivesRemainderRun};
 
 use counts::inner::stages::result_in;
+use floats::complex::Complex;
 use merging::Merges;
 use plan::Record;
 use radices::Radices;
 use refusal::{Refusal, Verdict, number, place};
 use scaling::Scaled;
 use spectrum::Tables;
-use turn::inner::words::Words;
 
 // What planning answers, with the refusal as two numbers.
 #[repr(C)]
@@ -324,7 +324,7 @@ pub extern "C" fn ladlespindle_turn(t: u32, l: u32) -> TurnWords
 {
     match turn::turn_of(t, l) {
         Ok(turn) => {
-            let words = Words::from(turn);
+            let words = Complex::from(turn);
             TurnWords {
                 number: 0,
                 place: 0,

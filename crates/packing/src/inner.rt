@@ -2,4 +2,3 @@
 pub mod packing;
 pub mod places;
 pub mod stages;
-pub mod words;

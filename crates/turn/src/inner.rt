@@ -1,4 +1,3 @@
 // What other crates call under a proof, and the parts of a lookup.
 pub mod kernel;
 pub mod lookup;
-pub mod words;

@@ -4,9 +4,9 @@ ghost use Rattle.end_twiddles.specs.Ends.{directed as directedOf, end_words};
 ghost use Rattle.end_twiddles.specs.Parts.{Endable};
 
 use counts::inner::stages::end_count;
-use packing::inner::words::put;
+use floats::complex::Complex;
+use floats::inner::cells::put;
 use turn::inner::lookup::at;
-use turn::inner::words::Words;
 
 // The direction of a transform.
 #[derive(Clone, Copy)]
@@ -16,15 +16,15 @@ pub enum Direction {
 }
 
 // An end twiddle from the words of its turn: forward half of them, inverse with the sine negated.
-fn directed(direction: Direction, w: Words) -> Words
+fn directed(direction: Direction, w: Complex) -> Complex
     ensures { (result.re, result.im) ≡ directedOf direction (w.re, w.im) }
 {
     match direction {
-        Direction::Forward => Words {
+        Direction::Forward => Complex {
             re: 0.5 * w.re,
             im: 0.5 * w.im,
         },
-        Direction::Inverse => Words {
+        Direction::Inverse => Complex {
             re: w.re,
             im: -w.im,
         },
@@ -38,7 +38,7 @@ pub fn ends(direction: Direction, n: usize, out: &mut [f32])
 {
     let step = 6720 / n;
     for k in 0..end_count(n) {
-        let words = Words::from(at((k + 1) * step));
+        let words = Complex::from(at((k + 1) * step));
         put(out, k, directed(direction, words));
     }
 }

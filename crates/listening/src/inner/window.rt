@@ -3,8 +3,8 @@ ghost use Rattle.std.specs.Prelude.{◌≡◌, true, length};
 ghost use Rattle.listening.specs.Block.{hann, weighed};
 ghost use Rattle.turn.specs.Turns.{housed};
 
+use floats::complex::Complex;
 use turn::inner::lookup::looked;
-use turn::inner::words::Words;
 
 // The weights of a block, as many as the slice is long.
 pub fn window(out: &mut [f32])
@@ -13,7 +13,7 @@ pub fn window(out: &mut [f32])
 {
     let n = out.len();
     for (i, weight) in out.iter_mut().enumerate() {
-        let turned = Words::from(looked(i, n));
+        let turned = Complex::from(looked(i, n));
         *weight = 0.5 - 0.5 * turned.re;
     }
 }

@@ -6,11 +6,11 @@ ghost use Rattle.packing.specs.Twiddles.{twiddle, stages_words};
 ghost use Rattle.packing.specs.Parts.{Turnable, Turned, Fillable, Packable};
 
 use crate::inner::packing::{Lane, Packing};
-use crate::inner::words::put;
 use counts::inner::stages::{stride, twiddle_start};
+use floats::complex::Complex;
+use floats::inner::cells::put;
 use plan::Record;
 use turn::inner::lookup::at;
-use turn::inner::words::Words;
 
 // So many twiddles of an iteration, each turned on from the last.
 fn iteration(lane: Lane, turn: usize, each: usize, out: &mut [f32])
@@ -21,7 +21,7 @@ fn iteration(lane: Lane, turn: usize, each: usize, out: &mut [f32])
         put(
             out,
             lane.first + k * lane.apart,
-            Words::from(at((k + 1) * turn)),
+            Complex::from(at((k + 1) * turn)),
         );
     }
 }
