@@ -24,10 +24,7 @@ fn directed(direction: Direction, w: Complex) -> Complex
             re: 0.5 * w.re,
             im: 0.5 * w.im,
         },
-        Direction::Inverse => Complex {
-            re: w.re,
-            im: -w.im,
-        },
+        Direction::Inverse => w.conj(),
     }
 }
 
