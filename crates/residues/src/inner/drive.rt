@@ -22,6 +22,16 @@ fn drive(plan: Record, m: u64, w: u64, data: &mut [u32], scratch: &mut [u32])
     }
 }
 
+// A copy of numbers. By copy_from_slice the library would want memmove of its host.
+fn copy(src: &[u32], dst: &mut [u32])
+    requires { length dst.old ≡ length src.now }
+    ensures { dst.new ≡ src.now }
+{
+    for i in 0..src.len() {
+        dst[i] = src[i];
+    }
+}
+
 // A run of an accepted plan: its stages in turn, and a single one copied back.
 pub fn all(plan: Record, m: u64, w: u64, data: &mut [u32], scratch: &mut [u32])
     requires { Workable plan m w «data».old (length scratch.old) }
@@ -30,6 +40,6 @@ pub fn all(plan: Record, m: u64, w: u64, data: &mut [u32], scratch: &mut [u32])
 {
     drive(plan, m, w, data, scratch);
     if plan.count == 1 {
-        data.copy_from_slice(scratch);
+        copy(scratch, data);
     }
 }

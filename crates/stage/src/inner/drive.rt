@@ -9,6 +9,7 @@ ghost use Rattle.stage.specs.Runs.{stage_in, run_of, Drivable, Steppable};
 use counts::Buffer;
 use counts::inner::stages::{result_in, twiddle_count};
 use float_stage::inner::stage::work;
+use floats::inner::words::paste;
 use plan::Record;
 
 // The stages of an accepted plan, and the twiddles of them all, packed for a width.
@@ -40,7 +41,7 @@ impl<'a> Stages<'a> {
     {
         let count = self.plan.count;
         if count == 1 {
-            data.copy_from_slice(scratch);
+            paste(scratch, data, 0);
             return;
         }
         let mut start = twiddle_count(self.plan, 0);
@@ -79,7 +80,7 @@ impl<'a> Stages<'a> {
             self.one(0, input, scratch, 0);
             self.later(data, scratch);
         } else {
-            data.copy_from_slice(input);
+            paste(input, data, 0);
         }
         result_in(self.plan.count)
     }

@@ -6,7 +6,7 @@ use Rattle.residues.proofs.inner.drive.all.Goals as goal
 pub returns-then-plan-eq1 : goal.returns-then-plan-eq1
 returns-then-plan-eq1 c = let a = c.args in
     let both = driven_copied (λ j. stage_of a.plan j a.m a.w) (a.«data».now, a.scratch.now) a.plan.count
-    c.if-plan-eq1.true _ _ c.copy_from_slice.ensures.after c.drive.ensures.scratch_after in
+    c.if-plan-eq1.true _ _ c.copy.ensures c.drive.ensures.scratch_after in
     record { data_after = both.0; scratch_after = both.1 }
 
 pub returns-else-plan-eq1 : goal.returns-else-plan-eq1

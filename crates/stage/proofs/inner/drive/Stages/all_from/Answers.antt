@@ -1,6 +1,7 @@
 -- `stage::inner::drive::Stages::all_from` meets its contract. Assumes nothing.
 use Rattle.sequences.proofs.Basics.{◌≡◌, ap, ◌∙◌, arith, length}
 use lib.Ieee.{Float}
+use Rattle.sequences.proofs.Pasted.{whole_pasted}
 use Rattle.counts.proofs.Counts.{start_none}
 use Rattle.schedule.specs.Buffers.{Two}
 use Rattle.stage.specs.Runs.{stage_in, run_of}
@@ -25,7 +26,7 @@ later-requires c = (
 pub shape_of-data : goal.shape_of-data
 shape_of-data c = elim c.if-self-gt0.branch [
   | then-self-gt0 w ↦ ap length w.data-is ∙ w.later.auto.«data»
-  | else-self-gt0 w ↦ ap length w.data-is ∙ w.copy_from_slice.auto.self
+  | else-self-gt0 w ↦ ap length w.data-is ∙ w.paste.auto.dst
 ]
 
 pub shape_of-scratch : goal.shape_of-scratch
@@ -41,6 +42,6 @@ returns c = let a = c.args in let b : Two Float = (a.input.now, a.scratch.now) i
     elim c.if-self-gt0.branch [
       | then-self-gt0 w ↦ let g = w.later.ensures a.input.now a.scratch.now w.one.ensures in (w.data-is ∙ g.0, w.scratch-is ∙ g.1)
       | else-self-gt0 w ↦ let g = gone_none f a.self.plan.count (omega (arith, w.if-self-gt0.false)) b in
-          (w.data-is ∙ w.copy_from_slice.ensures.after ∙ g.0, w.scratch-is ∙ g.1)
+          (w.data-is ∙ w.paste.ensures ∙ whole_pasted _ _ c.requires.1 ∙ g.0, w.scratch-is ∙ g.1)
     ] in
     record { data_after = left.0; scratch_after = left.1; value = c.result_in.ensures }

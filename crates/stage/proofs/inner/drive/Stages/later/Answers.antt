@@ -1,5 +1,6 @@
 -- `stage::inner::drive::Stages::later` meets its contract. Assumes nothing.
-use Rattle.sequences.proofs.Basics.{◌≡◌, ◌<◌, ap, ◌∙◌, ◌+◌, ◌*◌, le_of_lt, arith, length}
+use Rattle.sequences.proofs.Basics.{◌≡◌, ◌<◌, sym, ap, ◌∙◌, ◌+◌, ◌*◌, le_of_lt, arith, length}
+use Rattle.sequences.proofs.Pasted.{whole_pasted}
 use Rattle.counts.proofs.Counts.{count_small, start_next, start_none, start_few}
 use Rattle.stage.specs.Runs.{stage_in}
 use Rattle.stage.proofs.Runs.{length_made, Going, going_first, going_even, going_odd, gone_one, gone_all}
@@ -9,7 +10,7 @@ use Rattle.stage.proofs.inner.drive.Stages.later.Goals.{then-k-eq0, else-k-eq0}
 pub returns-then-count-eq1 : goal.returns-then-count-eq1
 returns-then-count-eq1 c = let a = c.args in
     gone_one (stage_in a.self.plan a.self.width a.self.twiddles.now) a.scratch.now _ a.self.plan.count c.if-count-eq1.true
-    c.copy_from_slice.ensures.after
+    (c.paste.ensures ∙ whole_pasted _ _ (c.requires.0.long ∙ sym c.requires.0.wide))
 
 pub loop-k-init : goal.loop-k-init
 loop-k-init c = let a = c.args in (
