@@ -17,8 +17,8 @@ use pcm::inner::samples::read_samples;
 use spectrum::Tables;
 use twiddle::fill_forward;
 
-// What a transform goes by and the window, and room for the bytes of a block, its samples, its spectrum, what is left of a transform, and the power
-// of the bins, summed.
+// What a transform at width 1 goes by and the window, and room for the bytes of a block, its samples, its spectrum, what is left of a transform, and
+// the power of the bins, summed.
 #[derive(Drop)]
 struct Room<'a> {
     tables: Tables<'a>,
@@ -54,6 +54,17 @@ pub fn hear(
     requires { (0 < start.rate) × (start.rate ≤ 192000) }
 {
     let setup = Setup::of(options, start.rate)?;
+    hear_as(rt, source, &setup, start)
+}
+
+// Hears samples as it is set up, with room for the longest blocks. Apart, so that a call that is refused takes no such room.
+#[inline(never)]
+fn hear_as(
+    rt: &HostRuntime,
+    source: &mut Source,
+    setup: &Setup,
+    start: Start,
+) -> Result<(), Fault> {
     let n = setup.plan.n;
     let mut stage = [0f32; 22056];
     let mut end = [0f32; 3358];
@@ -86,14 +97,14 @@ pub fn hear(
         scratch: &mut scratch[..6 * n],
         sums: &mut sums[..setup.plan.half + 1],
     };
-    match hear_blocks(rt, source, start.samples, &setup, progress, room) {
+    match hear_blocks(rt, source, start.samples, setup, progress, room) {
         Ok(heard) => {
             progress.wipe(rt);
             finish(
                 rt,
                 source,
                 start,
-                &setup,
+                setup,
                 heard,
                 &sums[..setup.plan.half + 1],
             )
@@ -115,7 +126,7 @@ fn hear_blocks(
     progress: Progress,
     room: Room<'_>,
 ) -> Result<Heard, Fault>
-    requires { (length room.bytes.now ≡ 2 * setup.now.plan.n) × (length room.samples.now ≡ setup.now.plan.n) }
+    requires { (room.tables.width ≡ 1) × (length room.bytes.now ≡ 2 * setup.now.plan.n) × (length room.samples.now ≡ setup.now.plan.n) }
 {
     // Apart, since the check does not cover two fields lent at once behind a reference.
     let Room {
