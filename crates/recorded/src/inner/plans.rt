@@ -60,7 +60,11 @@ fn halved(list: &[u8]) -> Radices {
 
 // Whether a column shows the entries of an array.
 fn holds(text: &[u8], entries: [u8; 13]) -> bool {
-    text == entries.map(entry).as_slice()
+    text.len() == entries.len()
+        && text
+            .iter()
+            .zip(&entries)
+            .all(|(c, byte)| *c == entry(*byte))
 }
 
 // The character of an entry: a radix as its digit, and 0 as the place with no entry.
