@@ -43,7 +43,7 @@ pub fn plan(list: &[u8]) -> Result<Planned, Refusal>
     }
     let n = match running_product(list) {
         Ok(n) => n,
-        Err(over) => return Err(Refusal::TooLarge(over)),
+        Err(over) => return Err(Refusal::TooLarge(over.at)),
     };
     if n % 2 == 1 {
         return Err(Refusal::Odd);

@@ -1,5 +1,5 @@
 // Lists of radices: the first byte that is no radix, the product, the first of a value, counts, and lists that are built.
-ghost use Rattle.std.specs.Prelude.{◌≡◌, ◌+◌, ◌<◌, ◌≤◌, ◌∷◌, ◌++◌, ℕ, List, [], length, replicate, MatchResult};
+ghost use Rattle.std.specs.Prelude.{◌≡◌, ◌+◌, ◌<◌, ◌≤◌, ◌∷◌, ◌++◌, ℕ, List, [], length, take, replicate, MatchResult};
 ghost use Rattle.sequences.specs.Found.{Found};
 ghost use Rattle.radices.specs.Lists.{is_radix, product, first_bad, first_over, index_of, count_of, listed};
 
@@ -27,18 +27,26 @@ pub fn index_of(list: &[u8], v: u8) -> Option<usize>
     list.iter().position(|&b| b == v)
 }
 
-// The product of a list, or the first index where the running product is above the largest length.
-pub fn running_product(list: &[u8]) -> Result<usize, usize>
+// Where the running product of a list is first above the largest length, and the product up to there.
+#[derive(Clone, Copy)]
+pub struct Running {
+    pub at: usize,
+    pub product: usize,
+}
+
+// The product of a list, or where the running product is above the largest length.
+pub fn running_product(list: &[u8]) -> Result<usize, Running>
     ensures { MatchResult result
         (λ n. (length list.now ≤ first_over 1 list.now) × (n ≡ product list.now))
-        (λ at. (at ≡ first_over 1 list.now) × (at < length list.now)) }
+        (λ over. (over.at ≡ first_over 1 list.now) × (over.product ≡ product (take over.at list.now)) × (over.at < length list.now)) }
 {
     let mut product: usize = 1;
     for (i, &b) in list.iter().enumerate() {
-        product *= usize::from(b);
-        if product > 8192 {
-            return Err(i);
+        let next = product * usize::from(b);
+        if next > 8192 {
+            return Err(Running { at: i, product });
         }
+        product = next;
     }
     Ok(product)
 }
@@ -59,7 +67,13 @@ pub fn product(list: &[u8]) -> usize
 pub fn count_of(list: &[u8], v: u8) -> usize
     ensures { result ≡ count_of v list.now }
 {
-    list.iter().filter(|&&b| b == v).count()
+    let mut n: usize = 0;
+    for i in 0..list.len() {
+        if list[i] == v {
+            n += 1;
+        }
+    }
+    n
 }
 
 impl Radices {
@@ -112,8 +126,8 @@ impl Radices {
         ensures count { self.new.count ≡ self.old.count + length list.now }
         ensures list { (xs : List ℕ) → self.old ≡ listed xs → self.new ≡ listed (xs ++ list.now) }
     {
-        let end = self.count + list.len();
-        self.entries[self.count..end].copy_from_slice(list);
-        self.count = end;
+        for &b in list {
+            self.push(b);
+        }
     }
 }

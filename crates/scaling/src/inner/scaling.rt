@@ -56,7 +56,7 @@ fn check(from: usize, list: &[u8]) -> Verdict
         return Err(Refusal::NoRadix(from + bad));
     }
     if let Err(over) = running_product(list) {
-        return Err(Refusal::TooLarge(from + over));
+        return Err(Refusal::TooLarge(from + over.at));
     }
     Ok(())
 }
