@@ -11,3 +11,7 @@ pub record IsText (t : Inside) : Type 0 where
   pub room : t.len ≤ 256
   pub long : length t.bytes ≡ 256
   pub clear : t.bytes ≡ take t.len t.bytes ++ replicate (256 - t.len) 0
+
+-- this array and this length
+abbrev pub held : List ℕ → ℕ → Inside
+held bytes len = record { bytes = bytes; len = len }

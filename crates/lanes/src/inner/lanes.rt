@@ -44,7 +44,7 @@ fn every_second(c: [Complex; 8], to: &mut Outputs, j: usize, r: usize, from: usi
 }
 
 // The r outputs of the cells c to lane j: the even ones, then the odd ones, which share most with each other.
-fn save(c: [Complex; 8], to: &mut Outputs, j: usize, r: usize)
+pub fn save(c: [Complex; 8], to: &mut Outputs, j: usize, r: usize)
     requires { (is_radix r ≡ true) × (2 ≤ r) × (r ≤ 8) × (j < 16) }
     ensures { Saved (kernel_of r (λ q. get_or c q blank)) j r to.old.re to.old.im to.new.re to.new.im }
 {
