@@ -26,7 +26,7 @@ use Rattle.floats.specs.Complexes.{cell}
 use Rattle.spectrum.specs.Calls.{Forwards, Inverts}
 use Rattle.power.specs.Power.{power_from, power_verdict, Powers}
 use Rattle.transform.specs.Transforms.{Slices}
-use Rattle.std.specs.Prelude.{Result, Ok}
+use Rattle.std.specs.Prelude.{Result, Ok, Err, IsOkAnd}
 use Rattle.refusal.specs.declared.Refusal.{Refusal}
 use Rattle.refusal.specs.Refusal.{granted}
 use Rattle.refusal.proofs.Rows.{grants}
@@ -115,6 +115,13 @@ by_size A M D Y T pos h =
 -- fewer units, where each stands for Y
 fewer : (Y S T : ℕ) → 512 * (Y * S) < 512 * (Y * T) → S < T
 fewer Y S T l = lt_of_not-le (λ n. absurd (omega (arith, mul-le-mul_left Y n)))
+
+-- ---- of an answer
+
+-- what follows of each number follows of one that is answered
+follows : (P Q : Float → Type 0) (s : Result Float Refusal) → ((x : Float) → P x → Q x) → IsOkAnd s P → IsOkAnd s Q
+follows P Q (Ok x) f o = f x o
+follows P Q (Err why) f o = o
 
 -- ---- the error of a plan's run
 
@@ -250,42 +257,52 @@ module _ (p : Record) (W : ℕ) (lent : Slices) (v : Verdict) (tw : Slices) (fil
   power_accepts_it lo hi s sum order inside =
       sum.answer ∙ ap (λ (u : Verdict). granted u (power_from after.0 lo (hi + 1 - lo))) (power_takes_it lo hi order inside)
 
+  -- so what holds of every number that it may answer holds of its answer
+  of_answer : (lo hi : ℕ) (s : Result Float Refusal) → Powers after.0 lo hi s → lo ≤ hi → hi ≤ p.half → (P : Float → Type 0)
+      → ((x : Float) → Powers after.0 lo hi (Ok x) → P x) → IsOkAnd s P
+  of_answer lo hi s sum order inside P each =
+      let e = power_accepts_it lo hi s sum order inside in
+      subst (λ (r : Result Float Refusal). IsOkAnd r P) (sym e)
+      (each (power_from after.0 lo (hi + 1 - lo)) (subst (λ (r : Result Float Refusal). Powers after.0 lo hi r) e sum))
+
   -- ---- lines, in what power answers of that spectrum
 
-  module _ (b : ℕ) (few : b ≤ 164) (small : Sized b xs) (lo hi : ℕ) (x : Float) (sum : Powers after.0 lo hi (Ok x)) (inside : hi ≤ p.half) where
+  module _ (b : ℕ) (few : b ≤ 164) (small : Sized b xs) (lo hi : ℕ) (s : Result Float Refusal) (sum : Powers after.0 lo hi s) (inside : hi ≤ p.half) where
     -- The samples go along a tone at bin k of the band by C: the power answered is at least 1023 / 1024 of C / A less the distance, squared, less two units.
     pub line_seen : (k : ℕ) → lo ≤ k → k ≤ hi → (r : Gauss) (A C : ℕ) → Correlates p.half xs k r A C
-        → (S : ℕ) × IsUnits S x
+        → IsOkAnd s (λ x. (S : ℕ) × IsUnits S x
         × (1023 * ((C - A * distance p.count p.half b) * (C - A * distance p.count p.half b)) ≤ 1024 * (2 ^ 60 * 2 ^ 60 * 2 ^ 149 * (A * A)) *
-        (S + 2))
+        (S + 2)))
     line_seen k lk kh r A C c =
+        of_answer lo hi s sum (le_trans lk kh) inside _ (λ (x : Float) (u : Powers after.0 lo hi (Ok x)).
         seen_in after.0 p.half (distance p.count p.half b) (exact_bin p.half xs) (bins_long p W lent v tw fills filled xs before r₀ after call e)
-        (forward_held b few small) (forward_accurate b few small) lo hi x sum k lk kh r A C c.size
+        (forward_held b few small) (forward_accurate b few small) lo hi x u k lk kh r A C c.size
         (moved C _ (sum_z (p.half * 2) (λ i. times_z (sample xs i) (tone house (6720 / (2 * p.half)) k r i)))
-        (correlation house (6720 / (2 * p.half)) p.half (sample xs) k r) c.enough)
+        (correlation house (6720 / (2 * p.half)) p.half (sample xs) k r) c.enough))
       where
         moved : (C : ℕ) (u v : Signed) → NearZ 0 u v → C + v.less ≤ v.more → C + u.less ≤ u.more
         moved C u v e h = omega arith
 
     -- Where they go along it by M beyond the distance, the power answered is at least 1023 / 1024 of M squared, less two units.
     pub line_heard : (k : ℕ) → lo ≤ k → k ≤ hi → (r : Gauss) (A M : ℕ) → 0 < A → Correlates p.half xs k r A (A * (M + distance p.count p.half b))
-        → (S : ℕ) × IsUnits S x × (1023 * (M * M) ≤ 1024 * (2 ^ 60 * 2 ^ 60 * 2 ^ 149) * (S + 2))
+        → IsOkAnd s (λ x. (S : ℕ) × IsUnits S x × (1023 * (M * M) ≤ 1024 * (2 ^ 60 * 2 ^ 60 * 2 ^ 149) * (S + 2)))
     line_heard k lk kh r A M pos c =
-        let o = line_seen k lk kh r A (A * (M + distance p.count p.half b)) c in
-        (o.0, o.1, by_size A M (distance p.count p.half b) (2 ^ 60 * 2 ^ 60 * 2 ^ 149) (o.0 + 2) pos o.2)
+        follows _ _ s (λ x o. (o.0, o.1, by_size A M (distance p.count p.half b) (2 ^ 60 * 2 ^ 60 * 2 ^ 149) (o.0 + 2) pos o.2))
+        (line_seen k lk kh r A (A * (M + distance p.count p.half b)) c)
 
     -- Every exact bin of the band is at most M: the power answered is at most 513 / 512 of M and the distance, squared, for each bin, and two units.
     pub quiet_stays_quiet : lo ≤ hi → (M : ℕ) → ((k : ℕ) → lo ≤ k → k ≤ hi → Disc M (exact_bin p.half xs k))
-        → (S : ℕ) × IsUnits S x
+        → IsOkAnd s (λ x. (S : ℕ) × IsUnits S x
         × (512 * (2 ^ 60 * 2 ^ 60 * 2 ^ 149 * S) ≤ 513 * ((hi + 1 - lo) *
-        ((distance p.count p.half b + M) * (distance p.count p.half b + M) + 2 * (2 ^ 60 * 2 ^ 60 * 2 ^ 149))))
+        ((distance p.count p.half b + M) * (distance p.count p.half b + M) + 2 * (2 ^ 60 * 2 ^ 60 * 2 ^ 149)))))
     quiet_stays_quiet order M each =
+        of_answer lo hi s sum order inside _ (λ (x : Float) (u : Powers after.0 lo hi (Ok x)).
         quiet_in after.0 p.half (distance p.count p.half b) (exact_bin p.half xs) (bins_long p W lent v tw fills filled xs before r₀ after call e)
-        (forward_held b few small) (forward_accurate b few small) lo hi x sum M each
+        (forward_held b few small) (forward_accurate b few small) lo hi x u M each)
 
   -- ---- in the hive's words: 1,680 samples of 16 bits, divided by 32,768
 
-  module _ (size : p.n ≡ 1680) (sixteen : SixteenBit xs) (lo hi : ℕ) (x : Float) (sum : Powers after.0 lo hi (Ok x)) (inside : hi ≤ 840) where
+  module _ (size : p.n ≡ 1680) (sixteen : SixteenBit xs) (lo hi : ℕ) (s : Result Float Refusal) (sum : Powers after.0 lo hi s) (inside : hi ≤ 840) where
     hive_plan : p ≡ plan_1680
     hive_plan = same_plan p plan_1680 planned passes_1680 size
 
@@ -298,29 +315,31 @@ module _ (p : Record) (W : ℕ) (lent : Slices) (v : Verdict) (tw : Slices) (fil
     -- A tone at bin k of amplitude 33 / 32,768 or more, rounded to 16 bits, goes along itself by 32 * 840 / 32,768 or more, half a unit being lost in each
     -- sample. Samples that go along a tone at k by so much, whatever else is in them, are answered with a power of 0.65 or more in any band with k.
     pub hive_heard : (k : ℕ) → lo ≤ k → k ≤ hi → (r : Gauss) (A : ℕ) → 0 < A → Correlates 840 xs k r A (A * (840 * 2 ^ 199))
-        → (S : ℕ) × IsUnits S x × (65 * 2 ^ 149 ≤ 100 * S)
+        → IsOkAnd s (λ x. (S : ℕ) × IsUnits S x × (65 * 2 ^ 149 ≤ 100 * S))
     hive_heard k lk kh r A pos c =
         let M = 13634880 * 2 ^ 185 in
         let same : 840 * 2 ^ 199 ≡ M + distance p.count p.half 108 = rw hive_distance refl in
         let c' : Correlates p.half xs k r A (A * (M + distance p.count p.half 108)) =
         subst (λ (n : ℕ). Correlates p.half xs k r A (A * n)) same
         (subst (λ (q : Record). Correlates q.half xs k r A (A * (840 * 2 ^ 199))) (sym hive_plan) c) in
-        let o = line_heard 108 (lit≤ tt) (sixteen_sized xs sixteen) lo hi x sum hive_inside k lk kh r A M pos c' in
-        (o.0, o.1, at_least (65 * 2 ^ 149) (1024 * (2 ^ 60 * 2 ^ 60 * 2 ^ 149)) (1023 * (M * M)) o.0 (lit< tt) o.2 (lit≤ tt))
+        follows _ _ s (λ x o. (o.0, o.1, at_least (65 * 2 ^ 149) (1024 * (2 ^ 60 * 2 ^ 60 * 2 ^ 149)) (1023 * (M * M)) o.0 (lit< tt) o.2 (lit≤ tt)))
+        (line_heard 108 (lit≤ tt) (sixteen_sized xs sixteen) lo hi s sum hive_inside k lk kh r A M pos c')
 
     -- Where every exact bin of the band is at most 1 / 64, each adds at most 1 / 1,800 to the power.
     pub hive_quiet : lo ≤ hi → ((k : ℕ) → lo ≤ k → k ≤ hi → Disc (2 ^ 203) (exact_bin 840 xs k))
-        → (S : ℕ) × IsUnits S x × (1800 * S ≤ (hi + 1 - lo) * 2 ^ 149)
+        → IsOkAnd s (λ x. (S : ℕ) × IsUnits S x × (1800 * S ≤ (hi + 1 - lo) * 2 ^ 149))
     hive_quiet order each =
-        let o = quiet_stays_quiet 108 (lit≤ tt) (sixteen_sized xs sixteen) lo hi x sum hive_inside order (2 ^ 203)
-        (subst (λ (q : Record). (k : ℕ) → lo ≤ k → k ≤ hi → Disc (2 ^ 203) (exact_bin q.half xs k)) (sym hive_plan) each) in
         let Y = 2 ^ 60 * 2 ^ 60 * 2 ^ 149 in
-        let D = 127680 * 2 ^ 185 in (
+        let D = 127680 * 2 ^ 185 in
+        follows _ _ s
+        (λ x o. (
           o.0,
           o.1,
           at_most (2 ^ 149) Y ((D + 2 ^ 203) * (D + 2 ^ 203) + 2 * Y) (hi + 1 - lo) o.0 (lit< tt)
               (subst (λ (n : ℕ). 512 * (Y * o.0) ≤ 513 * ((hi + 1 - lo) * ((n + 2 ^ 203) * (n + 2 ^ 203) + 2 * Y))) hive_distance o.2) (lit≤ tt),
-        )
+        ))
+        (quiet_stays_quiet 108 (lit≤ tt) (sixteen_sized xs sixteen) lo hi s sum hive_inside order (2 ^ 203)
+        (subst (λ (q : Record). (k : ℕ) → lo ≤ k → k ≤ hi → Disc (2 ^ 203) (exact_bin q.half xs k)) (sym hive_plan) each))
 
 -- ---- what is heard
 
@@ -356,7 +375,8 @@ module _ (p : Record) (W : ℕ) (lent : Slices) (v : Verdict) (tw : Slices) (fil
     pub tone_heard : (k : ℕ) → lo ≤ k → k ≤ hi → (r : Gauss) (A M : ℕ) → 0 < A → Correlates p.half xs k r A (A * (M + distance p.count p.half b))
         → 1024 * (2 ^ 60 * 2 ^ 60 * 2 ^ 149) * (θ + 2) ≤ 1023 * (M * M) → h.decision ≡ Fanning
     tone_heard k lk kh r A M pos c low =
-        let o = line_heard p W lent v tw fills filled xs before Accepted after ran refl words b few small lo hi h.power summing band.1 k lk kh r A M pos c in
+        let o = line_heard p W lent v tw fills filled xs before Accepted after ran refl words b few small lo hi (Ok h.power) summing band.1 k lk kh r A M pos c
+        in
         let l : θ + 2 ≤ o.0 + 2 = le_of_mul-le-mul_left (le_trans low o.2) (lit< tt) in
         fans o.0 o.1 (omega arith)
 
@@ -366,7 +386,7 @@ module _ (p : Record) (W : ℕ) (lent : Slices) (v : Verdict) (tw : Slices) (fil
         < 512 * (2 ^ 60 * 2 ^ 60 * 2 ^ 149 * θ)
         → h.decision ≡ Quiet
     band_quiet M each high =
-        let o = quiet_stays_quiet p W lent v tw fills filled xs before Accepted after ran refl words b few small lo hi h.power summing band.1 band.0 M
+        let o = quiet_stays_quiet p W lent v tw fills filled xs before Accepted after ran refl words b few small lo hi (Ok h.power) summing band.1 band.0 M
         each in
         rests o.0 o.1 (fewer (2 ^ 60 * 2 ^ 60 * 2 ^ 149) o.0 θ (lt_of_le_of_lt o.2 high))
 
@@ -380,13 +400,14 @@ module _ (p : Record) (W : ℕ) (lent : Slices) (v : Verdict) (tw : Slices) (fil
     pub hive_tone_heard : (k : ℕ) → lo ≤ k → k ≤ hi → (r : Gauss) (A : ℕ) → 0 < A → Correlates 840 xs k r A (A * (840 * 2 ^ 199)) → 100 * θ ≤ 65 * 2 ^ 149
         → h.decision ≡ Fanning
     hive_tone_heard k lk kh r A pos c low =
-        let o = hive_heard p W lent v tw fills filled xs before Accepted after ran refl words size sixteen lo hi h.power summing hive_in k lk kh r A pos c in
+        let o = hive_heard p W lent v tw fills filled xs before Accepted after ran refl words size sixteen lo hi (Ok h.power) summing hive_in k lk kh r A pos c
+        in
         fans o.0 o.1 (omega (arith, le_trans low o.2))
 
     -- a band whose exact bins are at most 1 / 64 is quiet, by a threshold above 1 / 1,800 for each of its bins
     pub hive_band_quiet : ((k : ℕ) → lo ≤ k → k ≤ hi → Disc (2 ^ 203) (exact_bin 840 xs k)) → (hi + 1 - lo) * 2 ^ 149 < 1800 * θ → h.decision ≡ Quiet
     hive_band_quiet each high =
-        let o = hive_quiet p W lent v tw fills filled xs before Accepted after ran refl words size sixteen lo hi h.power summing hive_in band.0 each in
+        let o = hive_quiet p W lent v tw fills filled xs before Accepted after ran refl words size sixteen lo hi (Ok h.power) summing hive_in band.0 each in
         rests o.0 o.1 (omega (arith, lt_of_le_of_lt o.2 high))
 
 -- ---- the way back

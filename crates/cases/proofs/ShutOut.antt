@@ -1,12 +1,12 @@
 -- Wrong programs that the promises of planning shut out: merge counts and twiddle counts made up. Assumes nothing.
-use Rattle.sequences.proofs.Basics.{◌≡◌, refl, ap, ◌∙◌, ℕ, arith, List, [], ◌∷◌}
+use Rattle.sequences.proofs.Basics.{◌≡◌, refl, sym, ap, ◌∙◌, subst, ℕ, arith, List, [], ◌∷◌}
 use Rattle.counts.specs.Counts.{radix, twiddle_count, twiddle_start, stage_twiddles, end_count, record_verdict, CountsStage, CountsEnd}
 use Rattle.halving.specs.Half.{halving, halved, half}
 use Rattle.radices.specs.Lists.{is_radix, product, first_bad, index_of, first_over, count_of, padded, eq_list}
 use Rattle.sequences.specs.Lists.{first_that}
 use Rattle.merging.specs.Merging.{tally, applies, merge, first_rule, rules_up_to, rules, merged_by, merged, letters, sorted, marked}
 use Rattle.plan.specs.Record.{plan_verdict, factors, record_of, accepted_plan, planned, Plans, in_order, sized, is_planned}
-use Rattle.std.specs.Prelude.{Result, Ok}
+use Rattle.std.specs.Prelude.{Result, Ok, IfOk, IsOkAnd}
 use Rattle.refusal.specs.declared.Refusal.{Refusal}
 use Rattle.refusal.specs.Refusal.{granted}
 use Rattle.plan.specs.declared.Planned.{Planned}
@@ -29,13 +29,17 @@ merges_4444 = (_, refl, refl)
 same_ok : {A : Type 0} {a b : A} (r : Result A Refusal) → Ok a ≡ r → r ≡ Ok b → a ≡ b
 same_ok r e f = let g = e ∙ f in cc
 
+-- an answer that is n, and c where it is a number
+meets : {A : Type 0} (count : A → ℕ) (r : Result A Refusal) (a : A) (c : ℕ) → r ≡ Ok a → IfOk r (λ b. count b ≡ c) → count a ≡ c
+meets {A} count r a c e f = subst (λ (q : Result A Refusal). IfOk q (λ b. count b ≡ c)) e f
+
 -- one count of merges for every list
-pub one_merge_count : (c : ℕ) (a b : Planned) → Plans (2 ∷ 2 ∷ 2 ∷ 2 ∷ []) (Ok a) → Plans (4 ∷ 4 ∷ 4 ∷ 4 ∷ []) (Ok b) → a.merges.count ≡ c
-    → b.merges.count ≡ c → ⊥
-one_merge_count c a b p q e f =
-    let one : a.merges.count ≡ 1 = ap (λ (r : Planned). r.merges.count) (same_ok _ p.answer merges_2222.1) ∙ merges_2222.2 in
-    let two : b.merges.count ≡ 2 = ap (λ (r : Planned). r.merges.count) (same_ok _ q.answer merges_4444.1) ∙ merges_4444.2 in
-    omega arith
+pub one_merge_count : (c : ℕ) (r s : Result Planned Refusal) → Plans (2 ∷ 2 ∷ 2 ∷ 2 ∷ []) r → Plans (4 ∷ 4 ∷ 4 ∷ 4 ∷ []) s
+    → IfOk r (λ a. a.merges.count ≡ c) → IfOk s (λ b. b.merges.count ≡ c) → ⊥
+one_merge_count c r s p q e f =
+    let one : merges_2222.0.merges.count ≡ c = meets (λ (a : Planned). a.merges.count) r merges_2222.0 c (p.answer ∙ merges_2222.1) e in
+    let two : merges_4444.0.merges.count ≡ c = meets (λ (a : Planned). a.merges.count) s merges_4444.0 c (q.answer ∙ merges_4444.1) f in
+    omega (arith, one, two, merges_2222.2, merges_4444.2)
 
 -- ---- twiddles
 
@@ -69,15 +73,28 @@ unfolding planned plan_verdict first_bad first_that is_radix first_over product 
     rules_up_to first_rule applies merged_by merged sorted padded record_verdict is_planned in_order sized eq_list radix twiddle_count twiddle_start end_count
 counts_588 = counts _ _ _ _ refl refl refl
 
--- two answers with one number have no other
-apart : (c m n : ℕ) → ◌≡◌ {A = Result ℕ Refusal} (Ok c) (Ok m) → ◌≡◌ {A = Result ℕ Refusal} (Ok c) (Ok n) → m ≡ n
-apart c m n e f = cc
+module _ (r s : Result Planned Refusal) (p : Plans (2 ∷ 5 ∷ 8 ∷ 8 ∷ []) r) (q : Plans (4 ∷ 3 ∷ 7 ∷ 7 ∷ []) s) (c : ℕ) where
+  -- what holds of the plans of both lists holds of what is answered
+  both : (P : Planned → Planned → Type 0) → ((a b : Planned) → Plans (2 ∷ 5 ∷ 8 ∷ 8 ∷ []) (Ok a) → Plans (4 ∷ 3 ∷ 7 ∷ 7 ∷ []) (Ok b) → P a b)
+      → IsOkAnd r (λ a. IsOkAnd s (λ b. P a b))
+  both P each =
+      let (a, d) = counts_640.planned r p in let (b, e) = counts_588.planned s q in
+      subst (λ (u : Result Planned Refusal). IsOkAnd u (λ x. IsOkAnd s (λ y. P x y))) (sym d)
+      (subst (λ (u : Result Planned Refusal). IsOkAnd u (λ y. P a y)) (sym e)
+      (each a b (subst (Plans (2 ∷ 5 ∷ 8 ∷ 8 ∷ [])) d p) (subst (Plans (4 ∷ 3 ∷ 7 ∷ 7 ∷ [])) e q)))
 
-module _ (a b : Planned) (p : Plans (2 ∷ 5 ∷ 8 ∷ 8 ∷ []) (Ok a)) (q : Plans (4 ∷ 3 ∷ 7 ∷ 7 ∷ []) (Ok b)) (c : ℕ) where
   -- one count of stage twiddles for every plan
-  pub one_stage_count : CountsStage a.plan (Ok c) → CountsStage b.plan (Ok c) → ⊥
-  one_stage_count u v = let z = apart c _ _ (counts_640.stages a p _ u) (counts_588.stages b q _ v) in omega arith
+  pub one_stage_count : IsOkAnd r (λ a. IsOkAnd s (λ b. (m n : Result ℕ Refusal) → IfOk m (λ k. k ≡ c) → IfOk n (λ k. k ≡ c)
+      → CountsStage a.plan m → CountsStage b.plan n → ⊥))
+  one_stage_count = both _ (λ a b u v m n e f x y.
+      let one : 560 ≡ c = meets (λ (k : ℕ). k) m 560 c (counts_640.stages a u m x) e in
+      let two : 700 ≡ c = meets (λ (k : ℕ). k) n 700 c (counts_588.stages b v n y) f in
+      omega (arith, one, two))
 
   -- one count of end twiddles for every plan
-  pub one_end_count : CountsEnd a.plan (Ok c) → CountsEnd b.plan (Ok c) → ⊥
-  one_end_count u v = let z = apart c _ _ (counts_640.ends a p _ u) (counts_588.ends b q _ v) in omega arith
+  pub one_end_count : IsOkAnd r (λ a. IsOkAnd s (λ b. (m n : Result ℕ Refusal) → IfOk m (λ k. k ≡ c) → IfOk n (λ k. k ≡ c)
+      → CountsEnd a.plan m → CountsEnd b.plan n → ⊥))
+  one_end_count = both _ (λ a b u v m n e f x y.
+      let one : 159 ≡ c = meets (λ (k : ℕ). k) m 159 c (counts_640.ends a u m x) e in
+      let two : 146 ≡ c = meets (λ (k : ℕ). k) n 146 c (counts_588.ends b v n y) f in
+      omega (arith, one, two))

@@ -20,7 +20,9 @@ use Rattle.scratch.specs.Scratch.{data_of, pad_of}
 use Rattle.transform.specs.Transforms.{Slices, forward_of}
 use Rattle.mixing.specs.Steps.{fft_steps}
 use Rattle.ends.proofs.Cells.{length_ended}
-use Rattle.std.specs.Prelude.{Ok}
+use Rattle.std.specs.Prelude.{Result, Ok, IsOkAnd}
+use Rattle.refusal.specs.declared.Refusal.{Refusal}
+use Rattle.power.proofs.Unique.{Powers_one}
 use Rattle.spectrum.proofs.Unique.{Forwards_one, Inverts_one}
 use Rattle.spectrum.proofs.Verdicts.{forwardable, invertible}
 use Rattle.hear.specs.Hear.{Hears}
@@ -32,7 +34,7 @@ use Rattle.finite.specs.Sizes.{AtMost, Words, RightForward, RightInverse, Within
 use Rattle.finite.specs.Whole.{IsWhole, Short, Small, Samples, IsBins}
 use Rattle.finite.proofs.Accepted.{lent_accepted, whole_most, words_wider}
 use Rattle.finite.proofs.Bits.{same_told, same_word, same_bits}
-use Rattle.finite.proofs.Calls.{summing, stage_lent_within, stage_within, summed_within, power_within, samples_within, forward_within, bins_within}
+use Rattle.finite.proofs.Calls.{stage_lent_within, stage_within, summed_within, power_within, samples_within, forward_within, bins_within}
 use Rattle.finite.proofs.Calls.{inverse_within}
 use Rattle.finite.proofs.Exact.{short_count, forward_whole, inverse_whole}
 use Rattle.finite.proofs.Fillings.{filled_ones}
@@ -134,9 +136,11 @@ fill_bits d p W before r r' after after' f g e =
     (same_bits 0 after.0 after'.0 w.0 (ap (λ (s : Slices). s.0) same), same_bits 0 after.1 after'.1 w.1 (ap (λ (s : Slices). s.1) same))
 
 -- and the bits of the sum that power answers
-pub power_bits : (xs : List Float) (lo hi : ℕ) (x y : Float) → Powers xs lo hi (Ok x) → Powers xs lo hi (Ok y) → (b c : ℕ) → Holds b x → Holds c y → b ≡ c
-power_bits xs lo hi x y s t b c h g =
-    same_word 8194 96 b c x (power_finite xs lo hi x s) h (subst (Holds c) ((summing xs lo hi y t).1 ∙ sym (summing xs lo hi x s).1) g)
+pub power_bits : (xs : List Float) (lo hi : ℕ) (x : Float) (r : Result Float Refusal) → Powers xs lo hi (Ok x) → Powers xs lo hi r
+    → IsOkAnd r (λ y. (b c : ℕ) → Holds b x → Holds c y → b ≡ c)
+power_bits xs lo hi x r s t =
+    subst (λ (q : Result Float Refusal). IsOkAnd q (λ y. (b c : ℕ) → Holds b x → Holds c y → b ≡ c)) (Powers_one xs lo hi s t)
+    (λ b c h g. same_word 8194 96 b c x (power_finite xs lo hi x s) h g)
 
 -- forward leaves h + 1 bins
 bins_long : (p : Record) (W : ℕ) (stage end xs s : List Float) → length (forward_of p W stage end xs s).0 ≡ 2 * (p.half + 1)

@@ -2,7 +2,7 @@
 -- bytes and its samples that was read is written byte for byte; and a reader with a small window measures and reads a file of any length. Assumes nothing.
 use Rattle.sequences.proofs.Basics.{◌≡◌, sym, ap, ap₂, ◌∙◌, subst, ℕ, ◌+◌, ◌-◌, ◌*◌, ◌<◌, ◌≤◌, min, arith, true, false, T, List, ◌++◌, length, get_or, take}
 use Rattle.sequences.proofs.Basics.{drop, take_at, drop_at}
-use Rattle.std.specs.Prelude.{Result, Ok, Err}
+use Rattle.std.specs.Prelude.{Result, Ok, Err, IsOkAnd}
 use lib.IntN.{pos}
 use lib.Ieee.{Float, nan, fin, binary32, eq, fits as ieee_fits}
 use lib.Ieee.Exact.{HasValue}
@@ -53,17 +53,21 @@ module _ (file : List ℕ) (m : Result Wav Refusal) (before after : List Float) 
 
 -- ---- the numbers that are read
 
+-- what holds of what a walk has found
+of_found : (P : Samples → Type 0) (walk : Result Samples Refusal) (s : Samples) → walk ≡ Ok s → P s → IsOkAnd walk P
+of_found P walk s e h = subst (λ (w : Result Samples Refusal). IsOkAnd w P) (sym e) h
+
 -- sample i is the number v of its two bytes, or from 32,768 on 65,536 less, divided by 32,768: no rounding, no infinity and no NaN
 pub read_values : (file : List ℕ) (before after : List Float) (r : Result Wav Refusal) → Reads file before r after → (w : Wav) → r ≡ Ok w
-    → (s : Samples) → walk_of file ≡ Ok s → (i v : ℕ) → i < w.samples → number_at 2 file (s.at + 2 * i) ≡ v
-    → (v < 32768 → HasValue (get_or after i nan) false v 32768) × (32768 ≤ v → v < 65536 → HasValue (get_or after i nan) true (65536 - v) 32768)
-read_values file before after r reads w a s walk i v l e =
-    let (t, found, is, room, cells) = read_told file before after r reads w a in
-    let same : t ≡ s = cc (found, walk) in
-    let n : w.samples ≡ s.count = ap (λ (x : Wav). x.samples) is ∙ ap (λ (x : Samples). x.count) same in
-    let number : get_or after i nan ≡ sample_of v = ap (λ (ys : List Float). get_or ys i nan)
-    (cells ∙ ap (λ (x : Samples). samples_at file x.at x.count) same) ∙ samples_at_lem file s.at s.count i (omega (arith, l, n)) ∙ ap sample_of e in
-    (λ h. rw number ((sample_value v).0 h), λ h k. rw number ((sample_value v).1 h k))
+    → IsOkAnd (walk_of file) (λ s. (i v : ℕ) → i < w.samples → number_at 2 file (s.at + 2 * i) ≡ v
+    → (v < 32768 → HasValue (get_or after i nan) false v 32768) × (32768 ≤ v → v < 65536 → HasValue (get_or after i nan) true (65536 - v) 32768))
+read_values file before after r reads w a =
+    let (s, found, is, room, cells) = read_told file before after r reads w a in
+    of_found _ (walk_of file) s found (λ i v l e.
+    let n : w.samples ≡ s.count = ap (λ (x : Wav). x.samples) is in
+    let number : get_or after i nan ≡ sample_of v = ap (λ (ys : List Float). get_or ys i nan) cells
+    ∙ samples_at_lem file s.at s.count i (omega (arith, l, n)) ∙ ap sample_of e in
+    (λ h. rw number ((sample_value v).0 h), λ h k. rw number ((sample_value v).1 h k)))
 
 -- ---- a file that was written
 
@@ -151,19 +155,17 @@ measure_windows file size enough m c = c.answer ∙ ap (told Accepted) (sym (wal
 
 -- and any samples that are read are those of any window that holds their bytes, from the place on where the walk through windows finds them
 pub read_windows : (file : List ℕ) (size : ℕ → ℕ) → ((at : ℕ) → min 24 (length file - at) ≤ size at) → (before after : List Float) (r : Result Wav Refusal)
-    → Reads file before r after → (w : Wav) → r ≡ Ok w → (s : Samples) → walk_in (λ at. take (size at) (drop at file)) (length file) ≡ Ok s
-    → (i m p k from : ℕ) → i + m ≤ w.samples → p + from ≡ s.at + 2 * i → from + 2 * m ≤ k
-    → take m (drop i after) ≡ samples_at (take k (drop p file)) from m
-read_windows file size enough before after r reads w a s walk i m p k from l e h =
-    let (t, found, is, room, cells) = read_told file before after r reads w a in
-    let same : t ≡ s = cc (found, sym (walk_window file size enough) ∙ walk) in
-    let n : w.samples ≡ s.count = ap (λ (x : Wav). x.samples) is ∙ ap (λ (x : Samples). x.count) same in
+    → Reads file before r after → (w : Wav) → r ≡ Ok w → IsOkAnd (walk_in (λ at. take (size at) (drop at file)) (length file)) (λ s.
+    (i m p k from : ℕ) → i + m ≤ w.samples → p + from ≡ s.at + 2 * i → from + 2 * m ≤ k → take m (drop i after) ≡ samples_at (take k (drop p file)) from m)
+read_windows file size enough before after r reads w a =
+    let (s, found, is, room, cells) = read_told file before after r reads w a in
+    of_found _ (walk_in (λ at. take (size at) (drop at file)) (length file)) s (walk_window file size enough ∙ found) (λ i m p k from l e h.
+    let n : w.samples ≡ s.count = ap (λ (x : Wav). x.samples) is in
     let place : s.at + 2 * i ≡ p + from = sym e in
     let rest = s.count - (i + m) in let all : s.count ≡ i + (m + rest) = omega (arith, l, n) in
     let front = samples_at file s.at i in let mid = samples_at file (s.at + 2 * i) m in let back = samples_at file (s.at + 2 * i + 2 * m) rest in
-    let parts : after ≡ front ++ (mid ++ back) = cells ∙ ap (λ (x : Samples). samples_at file x.at x.count) same
-    ∙ ap (samples_at file s.at) all ∙ samples_cut file s.at i (m + rest)
+    let parts : after ≡ front ++ (mid ++ back) = cells ∙ ap (samples_at file s.at) all ∙ samples_cut file s.at i (m + rest)
     ∙ ap (λ (ys : List Float). front ++ ys) (samples_cut file (s.at + 2 * i) m rest) in
     ap (λ (ys : List Float). take m (drop i ys)) parts
     ∙ ap (take m) (drop_at front (mid ++ back) i (samples_length file s.at i)) ∙ take_at mid back m (samples_length file (s.at + 2 * i) m)
-    ∙ ap (λ (j : ℕ). samples_at file j m) place ∙ sym (samples_window file p k from m h)
+    ∙ ap (λ (j : ℕ). samples_at file j m) place ∙ sym (samples_window file p k from m h))
