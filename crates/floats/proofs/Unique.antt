@@ -1,8 +1,12 @@
 -- Two answers that meet a promise are equal. Assumes nothing.
-use Rattle.sequences.proofs.Basics.{◌≡◌, sym, ◌∙◌}
+use Rattle.sequences.proofs.Basics.{◌≡◌, sym, ap, ◌∙◌}
+use lib.Ieee.{Float}
 use Rattle.turn.specs.declared.Turn.{Turn}
 use Rattle.floats.specs.declared.complex.Complex.{Complex}
-use Rattle.floats.specs.Complexes.{Adds, Subtracts, Multiplies, Conjugates, TurnsBy}
+use Rattle.floats.specs.Complexes.{cx, GivesWords, Adds, Subtracts, Multiplies, Conjugates, TurnsBy}
+
+pub GivesWords_one : (t : Turn) {r s : Complex} → GivesWords t r → GivesWords t s → r ≡ s
+GivesWords_one t a b = ap (λ (w : Float × Float). cx w.0 w.1) (a ∙ sym b)
 
 module _ (x y : Complex) {r s : Complex} where
   pub Adds_one : Adds x y r → Adds x y s → r ≡ s

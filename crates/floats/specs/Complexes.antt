@@ -4,6 +4,7 @@ use Rattle.std.specs.Prelude.{ℕ, ◌≡◌, List, [], ◌∷◌, Float}
 use Rattle.std.specs.Float.{nan, binary32}
 use Rattle.std.specs.Float.Ieee.{add, sub, mul, neg}
 use Rattle.sequences.specs.Pairs.{pair_at, put_pair}
+use Rattle.turn.specs.Turns.{words_of}
 use Rattle.turn.specs.declared.Turn.{Turn}
 use Rattle.turn.specs.declared.Turn.TheVariants.{Zero, Quarter, Half, ThreeQuarter, General}
 use Rattle.floats.specs.declared.complex.Complex.{Complex}
@@ -57,6 +58,9 @@ flat [] = []
 flat (z ∷ zs) = z.re ∷ (z.im ∷ flat zs)
 
 -- ---- what the calls promise of their answer r
+
+abbrev pub GivesWords : Turn → (r : Complex) → Type 0
+GivesWords t r = (r.re, r.im) ≡ words_of t
 
 abbrev pub Adds : (x y r : Complex) → Type 0
 Adds x y r = r ≡ plus x y

@@ -1,7 +1,5 @@
 // Complex numbers of two f32.
-ghost use Rattle.std.specs.Prelude.{◌≡◌};
-ghost use Rattle.turn.specs.Turns.{words_of};
-ghost use Rattle.floats.specs.Complexes.{Adds, Subtracts, Multiplies, Conjugates, TurnsBy};
+ghost use Rattle.floats.specs.Complexes.{GivesWords, Adds, Subtracts, Multiplies, Conjugates, TurnsBy};
 
 use std::ops::{Add, Mul, Sub};
 use turn::Turn;
@@ -15,7 +13,7 @@ pub struct Complex {
 
 // The two words of a turn, its cosine and its negated sine: 1, -1 and +0 where it is whole quarters.
 impl From<Turn> for Complex {
-    ghost from_gives = { λ turn z. (z.re, z.im) ≡ words_of turn };
+    ghost from_gives = { GivesWords };
 
     #[tactic(auto, unfolding(turn::specs::Turns::words_of))]
     fn from(turn: Turn) -> Complex {

@@ -1,11 +1,14 @@
 -- Two answers that meet a promise are equal: one theorem for each exported function. Assumes nothing.
 use Rattle.sequences.proofs.Basics.{◌≡◌, refl, sym, ℕ, zero, suc, ◌≤◌, arith, List}
 use lib.Ieee.{Float}
+use Rattle.std.specs.Prelude.{Result}
+use Rattle.refusal.specs.declared.Refusal.{Refusal}
 use Rattle.refusal.specs.Refusal.{Verdict}
 use Rattle.refusal.proofs.Unique.{agree}
 use Rattle.plan.specs.declared.Record.{Record}
 use Rattle.schedule.specs.Buffers.{Two}
 use Rattle.twiddle.specs.Calls.{Slices}
+use Rattle.wav.specs.declared.Wav.{Wav as Found}
 use Rattle.ladlespindle.specs.declared.Answer.{Answer}
 use Rattle.ladlespindle.specs.declared.Heard.{Heard}
 use Rattle.ladlespindle.specs.declared.Wav.{Wav}
@@ -14,7 +17,7 @@ use Rattle.ladlespindle.specs.declared.Summed.{Summed}
 use Rattle.ladlespindle.specs.declared.Ran.{Ran}
 use Rattle.ladlespindle.specs.declared.Scaling.{Scaling}
 use Rattle.ladlespindle.specs.declared.TurnWords.{TurnWords}
-use Rattle.ladlespindle.specs.Calls.{Gives, GivesTurn, GivesForward, GivesInverse, GivesStage, GivesSpectrum, GivesSamples, GivesPower}
+use Rattle.ladlespindle.specs.Calls.{Answers, Crosses, Gives, GivesTurn, GivesForward, GivesInverse, GivesStage, GivesSpectrum, GivesSamples, GivesPower}
 use Rattle.ladlespindle.specs.Calls.{GivesHeard, GivesMeasured, GivesRead, GivesWritten, GivesRemainderStage, GivesRemainderRun}
 use Rattle.ladlespindle.specs.Exports.{GivesVersion, GivesInterface, GivesPlanned}
 use Rattle.ladlespindle.specs.Exports.{GivesPlan, GivesNumber, GivesPlace, GivesLength, GivesHalf, GivesStages, GivesMerges, GivesRadix, GivesLetter}
@@ -127,6 +130,12 @@ GivesRemainderRun_one p m w before a b = (agree a.answer b.answer, agree a.cells
 pub GivesHeard_one : (p : Record) (W : ℕ) (stage end input : List Float) (lo hi : ℕ) (threshold : Float) (before : Slices) {r s : Heard} {x y : Slices}
     → GivesHeard p W stage end input lo hi threshold before r x → GivesHeard p W stage end input lo hi threshold before s y → (r ≡ s) × (x ≡ y)
 GivesHeard_one p W stage end input lo hi threshold before a b = (agree a.answer b.answer, agree a.cells b.cells)
+
+pub Answers_one : (v : Verdict) {r s : Answer} → Answers v r → Answers v s → r ≡ s
+Answers_one v a b = agree a b
+
+pub Crosses_one : (found : Result Found Refusal) {r s : Wav} → Crosses found r → Crosses found s → r ≡ s
+Crosses_one found a b = agree a b
 
 pub GivesMeasured_one : {file : List ℕ} {r s : Wav} → GivesMeasured file r → GivesMeasured file s → r ≡ s
 GivesMeasured_one a b = agree a.answer b.answer

@@ -34,6 +34,10 @@ use Rattle.ladlespindle.specs.declared.Wav.{Wav}
 abbrev pub answered : Verdict → Answer
 answered v = record { number = number_in v; place = place_in v }
 
+-- what `Answer::from` promises of its answer r
+abbrev pub Answers : Verdict → (r : Answer) → Type 0
+Answers v r = r ≡ answered v
+
 -- a sum with the refusal as two numbers
 abbrev pub power_as : (number place : ℕ) → Float → Summed
 power_as n k x = record { number = n; place = k; power = x }
@@ -112,6 +116,10 @@ wav_as n k rate samples = record { number = n; place = k; rate = rate; samples =
 abbrev pub crossed_wav : Result Found Refusal → Wav
 crossed_wav (Ok w) = wav_as 0 0 w.rate w.samples
 crossed_wav (Err why) = wav_as (number_of why) (place_of why) 0 0
+
+-- what `Wav::from` promises of its answer r
+abbrev pub Crosses : Result Found Refusal → (r : Wav) → Type 0
+Crosses found r = r ≡ crossed_wav found
 
 -- what `ladlespindle_wav_measure` promises of its answer r
 pub record GivesMeasured (file : List ℕ) (r : Wav) : Type 0 where

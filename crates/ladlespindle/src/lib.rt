@@ -7,7 +7,7 @@ ghost use Rattle.std.specs.Prelude.{◌≡◌, get_or};
 ghost use Rattle.ladlespindle.specs.Exports.{GivesVersion, GivesInterface, GivesPlanned, GivesPlan, GivesNumber, GivesPlace, GivesLength, GivesHalf, GivesStages, GivesMerges, GivesRadix, GivesLetter, GivesStageTwiddles, GivesEndTwiddles, GivesResult, GivesAcceptance, GivesScaling, planned_or_none, scaling_as};
 ghost use Rattle.refusal.specs.Refusal.{left};
 ghost use Rattle.counts.specs.Counts.{result_in, buffer_number};
-ghost use Rattle.ladlespindle.specs.Calls.{answered, GivesTurn, GivesForward, GivesInverse, GivesStage, GivesSpectrum, GivesSamples, GivesPower, GivesHeard, crossed_wav, GivesMeasured, GivesRead, GivesWritten, GivesRemainderStage, GivesRemainderRun};
+ghost use Rattle.ladlespindle.specs.Calls.{Answers, GivesTurn, GivesForward, GivesInverse, GivesStage, GivesSpectrum, GivesSamples, GivesPower, GivesHeard, Crosses, GivesMeasured, GivesRead, GivesWritten, GivesRemainderStage, GivesRemainderRun};
 
 use counts::inner::stages::result_in;
 use floats::complex::Complex;
@@ -97,7 +97,7 @@ pub struct Ran {
 }
 
 impl From<Verdict> for Answer {
-    ghost from_gives = { λ verdict answer. answer ≡ answered verdict };
+    ghost from_gives = { Answers };
 
     fn from(verdict: Verdict) -> Answer {
         Answer {
@@ -109,7 +109,7 @@ impl From<Verdict> for Answer {
 
 // What a recording answers, with the refusal as two numbers.
 impl From<Result<wav::Wav, Refusal>> for Wav {
-    ghost from_gives = { λ found wav. wav ≡ crossed_wav found };
+    ghost from_gives = { Crosses };
 
     fn from(found: Result<wav::Wav, Refusal>) -> Wav {
         match found {

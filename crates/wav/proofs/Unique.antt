@@ -5,8 +5,12 @@ use Rattle.std.specs.Prelude.{Result}
 use Rattle.refusal.specs.declared.Refusal.{Refusal}
 use Rattle.refusal.specs.Refusal.{Verdict}
 use Rattle.refusal.proofs.Unique.{agree}
-use Rattle.wav.specs.Wav.{Measures, Reads, Writes}
+use Rattle.chunks.specs.declared.inner.walk.Samples.{Samples}
+use Rattle.wav.specs.Wav.{Counts, Measures, Reads, Writes}
 use Rattle.wav.specs.declared.Wav.{Wav}
+
+pub Counts_one : (found : Samples) {r s : Wav} → Counts found r → Counts found s → r ≡ s
+Counts_one found a b = agree a b
 
 pub Measures_one : {file : List ℕ} {r s : Result Wav Refusal} → Measures file r → Measures file s → r ≡ s
 Measures_one a b = agree a.answer b.answer

@@ -16,6 +16,10 @@ use Rattle.wav.specs.declared.Wav.{Wav}
 abbrev pub counted : Samples → Wav
 counted found = record { rate = found.rate; samples = found.count }
 
+-- what `Wav::from` promises of its answer r
+abbrev pub Counts : Samples → (r : Wav) → Type 0
+Counts found r = r ≡ counted found
+
 -- what a walk tells of a file, by a verdict
 abbrev pub told : Verdict → Result Samples Refusal → Result Wav Refusal
 told Accepted (Ok found) = Ok (counted found)

@@ -4,7 +4,7 @@
 pub mod inner;
 
 ghost use Rattle.std.specs.Prelude.{◌≡◌};
-ghost use Rattle.wav.specs.Wav.{counted, Measures, Reads, Writes, write_verdict};
+ghost use Rattle.wav.specs.Wav.{Counts, Measures, Reads, Writes, write_verdict};
 
 use crate::inner::header::{header, lay};
 use chunks::inner::walk::{Samples, walk_over};
@@ -24,7 +24,7 @@ pub struct Wav {
 
 // What is told of samples that a walk has found.
 impl From<Samples> for Wav {
-    ghost from_gives = { λ found wav. wav ≡ counted found };
+    ghost from_gives = { Counts };
 
     fn from(found: Samples) -> Wav {
         Wav {
