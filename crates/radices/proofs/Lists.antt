@@ -2,11 +2,18 @@
 use Rattle.sequences.proofs.Basics.{◌≡◌, refl, sym, ap, ◌∙◌, ℕ, zero, suc, ◌+◌, ◌-◌, ◌*◌, ◌^◌, ◌<◌, ◌≤◌, add-zero, mul-one, one-mul, mul_assoc, mul-le-mul}
 use Rattle.sequences.proofs.Basics.{add-one, arith, List, [], ◌∷◌, ◌++◌, append_assoc, length, length-set, get_or, set, take, drop, replicate, length-append}
 use Rattle.sequences.proofs.Basics.{drop_of_length-le, eq-eqb, ne_eqb, length-replicate, drop-cons, take-suc, take-append_seam, set-append_left}
-use Rattle.sequences.proofs.Basics.{dite, dec_le, lt_of_not-le, ap₂, drop_at, set_at, lt-ltb, le-ltb}
+use Rattle.sequences.proofs.Basics.{dite, dec_le, lt_of_not-le, ap₂, drop_at, cond, eqb, set_at, lt-ltb, le-ltb}
 use borrow.Rule.Slice.PartMut.{put_mid}
+use Rattle.std.specs.List as std
 use Rattle.std.proofs.lemmas.List.{drop-replicate}
+use Rattle.std.proofs.lemmas.List.Recursion.{is_count_by}
 use Rattle.radices.specs.declared.Radices.{Radices}
 use Rattle.radices.specs.Lists.{product, first_over, largest, count_of, padded, listed}
+
+-- a count, as std has it
+pub count_by : (v : ℕ) (xs : List ℕ) → count_of v xs ≡ std.count_by (λ (b : ℕ). eqb b v) xs
+unfolding count_of
+count_by v xs = is_count_by (count_of v) (λ (b : ℕ). eqb b v) refl (λ b bs. ap (λ (n : ℕ). cond (eqb b v) n (count_of v bs)) (omega arith)) xs
 
 -- an element counts, or does not
 pub count_hit : (v : ℕ) (xs : List ℕ) (n i : ℕ) → i < length xs → get_or xs i 0 ≡ v
